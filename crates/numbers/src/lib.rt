@@ -1,0 +1,2 @@
+// The numbers of document 01: indices, roundings, limits and thresholds. No table is read here.
+pub mod index;

@@ -1,0 +1,24 @@
+use borrow.Author.Needs.{needs}
+use Rattle.rows.specs.Row.{get-none, get-short, get-part}
+use Rattle.rows.specs.Item.{items}
+use Rattle.rows.proofs.item.get_item.Statement.{statement}
+use Rattle.rows.proofs.item.get_item.Tie as tie
+
+pub get-item-spec : {M : Type 1} → statement M
+unfolding items
+get-item-spec =
+    tie.close
+    (tie.spec
+    (λ c κs. search needs)
+    (λ c. rw (c .no-item .ensures) (get-none items _ _ (search needs)))
+    (λ c. search needs)
+    (λ c. search needs)
+    (λ c. search needs)
+    (λ c κs. search needs)
+    (λ c. rw (c .no-item2 .ensures) (get-short items _ _ (search needs)))
+    (λ c. search needs)
+    (λ c. search needs)
+    (λ c. search needs)
+    (λ c. search needs)
+    (λ c κs. search needs)
+    (λ c. rw (c .read-item .ensures) (get-part items _ _ (search needs) (search needs))))

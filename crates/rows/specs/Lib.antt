@@ -1,0 +1,4 @@
+pub mod Row
+pub mod Header
+pub mod Shelf
+pub mod Item

@@ -1,0 +1,338 @@
+-- A flat table of numbers as rows of one width: what a row is, what storing one does, and every law that the crate uses of either.
+-- The width is a variable throughout. Assumes nothing.
+use mathlib.Core.Path.{_≡_, refl, sym, ap, _∙_, subst}
+use mathlib.Core.Logic.{_≢_, _⊎_, inl, inr, ⊎-elim}
+use mathlib.Core.List.{List, [], _∷_, _++_, append-assoc, append-nil}
+use Prim.Native.Nat.{ℕ, zero, suc, _+_, _-_, _*_, _/_, _%_, min, _≤_, _<_}
+use native.Mathlib.Nat.{suc-mul, mul-le-mul-right, add-sub-cancel-left, div-add-mod', mod-lt, le-div-iff-mul-le, min-le-left, min-le-right, le-min, div-mul-le-self}
+use native.Mathlib.Decide.{decLt, ℕ-discrete}
+use native.Mathlib.Omega.{arith}
+use lib.ListN.{length, getD, set, take, drop, length-append, length-take, length-drop, length-set, take-append-drop, drop-of-length-le, List·getD-append}
+use mathlib.Core.Bool.{Bool, true, false}
+use Rattle.numbers.specs.Pick.{pick}
+use Rattle.numbers.specs.Index.{noRow}
+use lib.Dec.{ltb}
+use borrow.Rule.Slice.PartMut.{set-mid-at}
+use borrow.Author.Tests.{lt-ltb, le-ltb}
+use lib.Seq.{length-take-le, getD-append-add, getD-take, getD-drop, ext-getD, take-add, drop-cons, drop-drop, sets, sets-eq, getD-set-same, getD-set-other}
+
+-- the k numbers from b on, and the table with them replaced
+cut : ℕ → List ℕ → ℕ → List ℕ
+cut k l b = take k (drop b l)
+
+splice : ℕ → List ℕ → ℕ → List ℕ → List ℕ
+splice k l b r = take b l ++ r ++ drop (b + k) l
+
+length-cut : (k : ℕ) (l : List ℕ) (b : ℕ) → b + k ≤ length l → length (cut k l b) ≡ k
+unfolding cut
+length-cut k l b h = length-take-le k (drop b l) (simp length-drop (omega arith))
+
+getD-cut : (k : ℕ) (l : List ℕ) (b n : ℕ) → n < k → getD (cut k l b) n 0 ≡ getD l (b + n) 0
+unfolding cut
+getD-cut k l b n h = getD-take k (drop b l) n 0 h ∙ getD-drop b l n 0
+
+splice-cut : (k : ℕ) (l : List ℕ) (b : ℕ) → splice k l b (cut k l b) ≡ l
+unfolding cut splice
+splice-cut k l b = ap (λ (p : List ℕ). p ++ drop (b + k) l) (sym (take-add b k l)) ∙ take-append-drop (b + k) l
+
+module _ (k : ℕ) (l : List ℕ) (b : ℕ) (r : List ℕ) (long : length r ≡ k) (fits : b + k ≤ length l) where
+  head-length : length (take b l) ≡ b
+  head-length = length-take-le b l (omega arith)
+
+  front-length : length (take b l ++ r) ≡ b + k
+  front-length = length-append (take b l) r ∙ (cc (head-length, long))
+
+  length-splice : length (splice k l b r) ≡ length l
+  unfolding splice
+  length-splice =
+      length-append (take b l ++ r) (drop (b + k) l) ∙ (omega (arith, front-length, length-drop (b + k) l))
+
+  before : (n : ℕ) → n < b → getD (splice k l b r) n 0 ≡ getD l n 0
+  unfolding splice
+  before n h =
+      List·getD-append (take b l ++ r) (drop (b + k) l) 0 n (omega (arith, front-length))
+      ∙ List·getD-append (take b l) r 0 n (omega (arith, head-length))
+      ∙ getD-take b l n 0 h
+
+  inside : (n : ℕ) → n < k → getD (splice k l b r) (b + n) 0 ≡ getD r n 0
+  unfolding splice
+  inside n h =
+      List·getD-append (take b l ++ r) (drop (b + k) l) 0 (b + n) (omega (arith, front-length))
+      ∙ subst (λ (m : ℕ). getD (take b l ++ r) (m + n) 0 ≡ getD r n 0) head-length (getD-append-add (take b l) r n 0)
+
+  after : (n : ℕ) → b + k ≤ n → getD (splice k l b r) n 0 ≡ getD l n 0
+  unfolding splice
+  after n h =
+      let e : b + k + (n - (b + k)) ≡ n = omega arith in
+      subst (λ (m : ℕ). getD (take b l ++ r ++ drop (b + k) l) m 0 ≡ getD l m 0) e
+      (subst (λ (m : ℕ). getD (take b l ++ r ++ drop (b + k) l) (m + (n - (b + k))) 0 ≡ getD l (b + k + (n - (b + k))) 0) front-length
+      (getD-append-add (take b l ++ r) (drop (b + k) l) (n - (b + k)) 0 ∙ getD-drop (b + k) l (n - (b + k)) 0))
+
+-- How a value of A stands in a table: as a row of `width` numbers.
+pub record Shape (A : Type 0) : Type 0 where
+  pub width : ℕ
+  pub some : 0 < width
+  pub numbers : A → List ℕ
+  pub value : List ℕ → A
+  pub long : (a : A) → length (numbers a) ≡ width
+  pub back : (a : A) → value (numbers a) ≡ a
+  pub forth : (r : List ℕ) → length r ≡ width → numbers (value r) ≡ r
+
+-- k elements from i on, each taken out by its index
+abbrev pub each : ℕ → ℕ → List ℕ → List ℕ
+each zero i r = []
+each (suc k) i r = getD r i 0 ∷ each k (suc i) r
+
+each-from : (k i : ℕ) (r : List ℕ) → length r ≡ i + k → each k i r ≡ drop i r
+each-from zero i r e = sym (drop-of-length-le r {i = i} (omega arith))
+each-from (suc k) i r e = rw (drop-cons r i 0 (omega arith)) (ap (λ (t : List ℕ). getD r i 0 ∷ t) (each-from k (suc i) r (omega arith)))
+
+-- a list of k is its elements: what `forth` asks of a shape whose `value` goes by indices
+pub each-all : (k : ℕ) (r : List ℕ) → length r ≡ k → each k 0 r ≡ r
+each-all k r e = each-from k 0 r (omega arith)
+
+-- a list that is stored over whole is what was stored: `sets` at a list that is written out computes to the stores themselves
+pub sets-all : (l vs : List ℕ) → length l ≡ length vs → sets l 0 vs ≡ vs
+sets-all l vs e =
+    sets-eq vs l 0 (omega arith)
+    ∙ ap (λ (t : List ℕ). vs ++ t) (drop-of-length-le l {i = 0 + length vs} (omega arith))
+    ∙ append-nil vs
+
+module _ {A : Type 0} (s : Shape A) where
+  -- how many rows a table has: the whole ones, and never a row 65535, which is the index that names none
+  pub rows : List ℕ → ℕ
+  rows l = min (length l / s .width) 65535
+
+  -- what is left after the last row
+  pub rest : List ℕ → List ℕ
+  rest l = drop (rows l * s .width) l
+
+  -- row i; where there is no row i, the value of no numbers
+  pub get : List ℕ → ℕ → A
+  get l i = pick (ltb i (rows l)) (s .value (take (s .width) (drop (i * s .width) l))) (s .value [])
+
+  -- the table with row i replaced; the table itself where there is no row i
+  pub put : List ℕ → ℕ → A → List ℕ
+  put l i v = pick (ltb i (rows l)) (splice (s .width) l (i * s .width) (s .numbers v)) l
+
+  pub rows-few : (l : List ℕ) → rows l ≤ 65535
+  unfolding rows
+  rows-few l = min-le-right _ _
+
+  pub rows-fit : (l : List ℕ) (i : ℕ) → i < rows l → i * s .width + s .width ≤ length l
+  unfolding rows
+  rows-fit l i h =
+      rw suc-mul at (le-div-iff-mul-le {k = s .width} {x = suc i} {y = length l} (s .some) .0
+      (omega (arith, min-le-left (length l / s .width) 65535)))
+
+  pub fit-rows : (l : List ℕ) (i : ℕ) → i < 65535 → i * s .width + s .width ≤ length l → i < rows l
+  unfolding rows
+  fit-rows l i f h = le-min (le-div-iff-mul-le {k = s .width} {x = suc i} {y = length l} (s .some) .1 (rw suc-mul h)) f
+
+  pub unfit-rows : (l : List ℕ) (i : ℕ) → length l < i * s .width + s .width → rows l ≤ i
+  unfit-rows l i h = go (decLt i (rows l)) where
+    go : Dec (i < rows l) → rows l ≤ i
+    go (yes b) = absurd (omega (arith, rows-fit l i b))
+    go (no b) = omega arith
+
+  pub cell-fit : (l : List ℕ) (i j : ℕ) → i < rows l → j < s .width → i * s .width + j < length l
+  cell-fit l i j h b = omega (arith, rows-fit l i h)
+
+  -- rows do not overlap
+  apart : (i j : ℕ) → i < j → i * s .width + s .width ≤ j * s .width
+  apart i j h = rw suc-mul at (mul-le-mul-right (s .width) h)
+
+  pub put-in : (l : List ℕ) (i : ℕ) (v : A) → i < rows l → put l i v ≡ take (i * s .width) l ++ s .numbers v ++ drop (i * s .width + s .width) l
+  unfolding put splice
+  put-in l i v h = rw (lt-ltb i (rows l) h)
+
+  pub put-out : (l : List ℕ) (i : ℕ) (v : A) → rows l ≤ i → put l i v ≡ l
+  unfolding put
+  put-out l i v h = rw (le-ltb i (rows l) h)
+
+  private-put : (l : List ℕ) (i : ℕ) (v : A) → i < rows l → put l i v ≡ splice (s .width) l (i * s .width) (s .numbers v)
+  unfolding splice
+  private-put l i v h = put-in l i v h
+
+  pub length-put : (l : List ℕ) (i : ℕ) (v : A) → length (put l i v) ≡ length l
+  length-put l i v = go (decLt i (rows l)) where
+    go : Dec (i < rows l) → length (put l i v) ≡ length l
+    go (yes h) = rw private-put (length-splice _ _ _ _ (s .long v) (rows-fit l i h))
+    go (no n) = ap length (put-out l i v (omega arith))
+
+  pub rows-put : (l : List ℕ) (i : ℕ) (v : A) → rows (put l i v) ≡ rows l
+  unfolding rows
+  rows-put l i v = rw length-put
+
+  pub get-in : (l : List ℕ) (i : ℕ) → i < rows l → get l i ≡ s .value (take (s .width) (drop (i * s .width) l))
+  unfolding get
+  get-in l i h = rw (lt-ltb i (rows l) h)
+
+  pub get-out : (l : List ℕ) (i : ℕ) → rows l ≤ i → get l i ≡ s .value []
+  unfolding get
+  get-out l i h = rw (le-ltb i (rows l) h)
+
+  -- the same, as the leaf's code comes to it: at the index of no row, at a row past the end, and at a part `l[b..e]` that is lent
+  pub get-none : (l : List ℕ) (i : ℕ) → i ≡ 65535 → s .value [] ≡ get l i
+  get-none l i e = sym (get-out l i (omega (arith, rows-few l)))
+
+  pub get-short : (l : List ℕ) (i : ℕ) → length l < i * s .width + s .width → s .value [] ≡ get l i
+  get-short l i h = sym (get-out l i (unfit-rows l i h))
+
+  pub get-part : (l : List ℕ) (i : ℕ) → i < 65535 → i * s .width + s .width ≤ length l
+      → s .value (take (i * s .width + s .width - i * s .width) (drop (i * s .width) l)) ≡ get l i
+  get-part l i f h = rw (add-sub-cancel-left, get-in l i (fit-rows l i f h))
+
+  pub put-none : (l : List ℕ) (i : ℕ) (v : A) → i ≡ 65535 → l ≡ put l i v
+  put-none l i v e = sym (put-out l i v (omega (arith, rows-few l)))
+
+  pub put-short : (l : List ℕ) (i : ℕ) (v : A) → length l < i * s .width + s .width → l ≡ put l i v
+  put-short l i v h = sym (put-out l i v (unfit-rows l i h))
+
+  pub put-part : (l : List ℕ) (i : ℕ) (v : A) → i < 65535 → i * s .width + s .width ≤ length l
+      → take (i * s .width) l ++ (s .numbers v ++ drop (i * s .width + s .width - i * s .width) (drop (i * s .width) l)) ≡ put l i v
+  put-part l i v f h = rw (add-sub-cancel-left, drop-drop, ← append-assoc) (sym (put-in l i v (fit-rows l i f h)))
+
+  pub get-put-same : (l : List ℕ) (i : ℕ) (v : A) → i < rows l → get (put l i v) i ≡ v
+  unfolding cut
+  get-put-same l i v h =
+      let t : List ℕ = put l i v in
+      let f : i * s .width + s .width ≤ length t = omega (arith, rows-fit l i h, length-put l i v) in
+      get-in t i (rw rows-put h)
+      ∙ ap (s .value) (ext-getD 0 (cut (s .width) t (i * s .width)) (s .numbers v)
+      (length-cut (s .width) t (i * s .width) f ∙ sym (s .long v))
+      (λ n b. let b′ : n < s .width = omega (arith, length-cut (s .width) t (i * s .width) f) in
+      getD-cut (s .width) t (i * s .width) n b′
+      ∙ rw (private-put l i v h) (inside _ l _ (s .numbers v) (s .long v) (rows-fit l i h) n b′)))
+      ∙ s .back v
+
+  -- a number outside row i stays
+  outside : (l : List ℕ) (i : ℕ) (v : A) (n : ℕ) → (n < i * s .width) ⊎ (i * s .width + s .width ≤ n) → getD (put l i v) n 0 ≡ getD l n 0
+  outside l i v n o = go (decLt i (rows l)) where
+    go : Dec (i < rows l) → getD (put l i v) n 0 ≡ getD l n 0
+    go (no h) = ap (λ (t : List ℕ). getD t n 0) (put-out l i v (omega arith))
+    go (yes h) = rw (private-put l i v h) (⊎-elim
+        (before _ l _ (s .numbers v) (s .long v) (rows-fit l i h) n)
+        (after _ l _ (s .numbers v) (s .long v) (rows-fit l i h) n) o)
+
+  either-side : (i j n : ℕ) → j ≢ i → n < s .width → (j * s .width + n < i * s .width) ⊎ (i * s .width + s .width ≤ j * s .width + n)
+  either-side i j n d b = go (decLt j i) where
+    go : Dec (j < i) → (j * s .width + n < i * s .width) ⊎ (i * s .width + s .width ≤ j * s .width + n)
+    go (yes h) = inl (omega (arith, apart j i h))
+    go (no h) = inr (omega (arith, apart i j (omega (arith, d))))
+
+  pub get-put-other : (l : List ℕ) (i j : ℕ) (v : A) → j ≢ i → get (put l i v) j ≡ get l j
+  unfolding get cut
+  get-put-other l i j v d =
+      let t : List ℕ = put l i v in
+      let k : ℕ = s .width in
+      rw rows-put (ap (λ (r : List ℕ). pick (ltb j (rows l)) (s .value r) (s .value []))
+      (ext-getD 0 (take k (drop (j * k) t)) (take k (drop (j * k) l))
+      (simp (length-take, length-drop, length-put))
+      (λ n b. let b′ : n < k = omega (arith, simp length-take at b) in
+      getD-cut k t (j * k) n b′ ∙ outside l i v (j * k + n) (either-side i j n d b′) ∙ sym (getD-cut k l (j * k) n b′))))
+
+  pub rest-put : (l : List ℕ) (i : ℕ) (v : A) → rest (put l i v) ≡ rest l
+  unfolding rest
+  rest-put l i v = rw rows-put (go (decLt i (rows l))) where
+    go : Dec (i < rows l) → drop (rows l * s .width) (put l i v) ≡ drop (rows l * s .width) l
+    go (no h) = rw (put-out l i v (omega arith))
+    go (yes h) = ext-getD 0 _ _ (simp (length-drop, length-put))
+        (λ n b. getD-drop (rows l * s .width) (put l i v) n 0
+        ∙ outside l i v (rows l * s .width + n) (inr (omega (arith, apart i (rows l) h)))
+        ∙ sym (getD-drop (rows l * s .width) l n 0))
+
+  -- two tables of one length with the same rows and the same rest are the same
+  pub same-rows : (l t : List ℕ) → length l ≡ length t → ((i : ℕ) → i < rows l → get l i ≡ get t i) → rest l ≡ rest t → l ≡ t
+  unfolding rows rest cut
+  same-rows l t e same end = ext-getD 0 l t e at where
+    in-row : (n : ℕ) → n / s .width < rows l → getD l n 0 ≡ getD t n 0
+    in-row n h =
+        let f : n / s .width * s .width + s .width ≤ length l = rows-fit l (n / s .width) h in
+        let m : n % s .width < s .width = mod-lt n (s .some) in
+        let c : cut (s .width) l (n / s .width * s .width) ≡ cut (s .width) t (n / s .width * s .width) =
+        sym (s .forth _ (length-cut (s .width) l (n / s .width * s .width) f)) ∙ ap (s .numbers) (sym (get-in l _ h) ∙ same (n / s .width) h ∙ get-in t _ (rw (← e) h))
+        ∙ s .forth _ (length-cut (s .width) t (n / s .width * s .width) (omega (arith, f, e))) in
+        subst (λ (j : ℕ). getD l j 0 ≡ getD t j 0) (div-add-mod' n (s .width))
+        (sym (getD-cut (s .width) l (n / s .width * s .width) (n % s .width) m) ∙ ap (λ (r : List ℕ). getD r (n % s .width) 0) c ∙ getD-cut (s .width) t (n / s .width * s .width) (n % s .width) m)
+
+    in-rest : (n : ℕ) → rows l ≤ n / s .width → getD l n 0 ≡ getD t n 0
+    in-rest n h =
+        let b : ℕ = rows l * s .width in
+        let g : b ≤ n = omega (arith, mul-le-mul-right (s .width) h, div-mul-le-self n (s .width)) in
+        let q : b + (n - b) ≡ n = omega arith in
+        let end′ : drop b l ≡ drop b t = end ∙ rw e in
+        subst (λ (j : ℕ). getD l j 0 ≡ getD t j 0) q
+        (sym (getD-drop b l (n - b) 0) ∙ ap (λ (r : List ℕ). getD r (n - b) 0) end′ ∙ getD-drop b t (n - b) 0)
+
+    at : (n : ℕ) → n < length l → getD l n 0 ≡ getD t n 0
+    at n b = go (decLt (n / s .width) (rows l)) where
+      go : Dec (n / s .width < rows l) → getD l n 0 ≡ getD t n 0
+      go (yes h) = in-row n h
+      go (no h) = in-rest n (omega arith)
+
+  pub put-get : (l : List ℕ) (i : ℕ) → put l i (get l i) ≡ l
+  put-get l i = same-rows _ _ (length-put _ _ _) row (rest-put _ _ _) where
+    row : (j : ℕ) → j < rows (put l i (get l i)) → get (put l i (get l i)) j ≡ get l j
+    row j b = go (ℕ-discrete j i) where
+      go : Dec (j ≡ i) → get (put l i (get l i)) j ≡ get l j
+      go (yes e) = rw e (get-put-same l i (get l i) (omega (arith, rows-put l i (get l i))))
+      go (no n) = get-put-other l i j (get l i) n
+
+  pub put-put : (l : List ℕ) (i : ℕ) (v w : A) → put (put l i v) i w ≡ put l i w
+  put-put l i v w = same-rows _ _ (simp length-put) row (simp rest-put) where
+    row : (j : ℕ) → j < rows (put (put l i v) i w) → get (put (put l i v) i w) j ≡ get (put l i w) j
+    row j b = go (ℕ-discrete j i) where
+      go : Dec (j ≡ i) → get (put (put l i v) i w) j ≡ get (put l i w) j
+      go (yes e) =
+          let h : i < rows l = omega (arith, simp rows-put at b) in
+          rw e (get-put-same (put l i v) i w (rw rows-put h) ∙ sym (get-put-same l i w h))
+      go (no n) = get-put-other (put l i v) i j w n ∙ get-put-other l i j v n ∙ sym (get-put-other l i j w n)
+
+  pub put-comm : (l : List ℕ) (i j : ℕ) (v w : A) → i ≢ j → put (put l i v) j w ≡ put (put l j w) i v
+  put-comm l i j v w d = same-rows _ _ (simp length-put) row (simp rest-put) where
+    row : (n : ℕ) → n < rows (put (put l i v) j w) → get (put (put l i v) j w) n ≡ get (put (put l j w) i v) n
+    row n b = go (ℕ-discrete n i) (ℕ-discrete n j) where
+      r : n < rows l
+      r = omega (arith, simp rows-put at b)
+
+      go : Dec (n ≡ i) → Dec (n ≡ j) → get (put (put l i v) j w) n ≡ get (put (put l j w) i v) n
+      go (yes e) (yes f) = absurd (d (sym e ∙ f))
+      go (yes e) (no f) = get-put-other _ j n w f ∙ rw e (get-put-same l i v (rw (← e) r) ∙ sym (get-put-same _ i v (rw (rows-put, ← e) r)))
+      go (no e) (yes f) = rw f (get-put-same _ j w (rw (rows-put, ← f) r) ∙ sym (get-put-other _ i j v (λ q. d (sym q)) ∙ get-put-same l j w (rw (← f) r)))
+      go (no e) (no f) = get-put-other _ j n w f ∙ get-put-other _ i n v e ∙ sym (get-put-other _ i n v e ∙ get-put-other _ j n w f)
+
+  -- row i changed by f. It is shut: what it does is said by the laws below, so that a run of changes stays as short as it is written
+  pub change : List ℕ → ℕ → (A → A) → List ℕ
+  change l i f = put l i (f (get l i))
+
+  pub change-is : (l : List ℕ) (i : ℕ) (f : A → A) → change l i f ≡ put l i (f (get l i))
+  unfolding change
+  change-is l i f = refl
+
+  pub length-change : (l : List ℕ) (i : ℕ) (f : A → A) → length (change l i f) ≡ length l
+  length-change l i f = rw change-is (length-put l i _)
+
+  pub rows-change : (l : List ℕ) (i : ℕ) (f : A → A) → rows (change l i f) ≡ rows l
+  rows-change l i f = rw change-is (rows-put l i _)
+
+  pub get-change-same : (l : List ℕ) (i : ℕ) (f : A → A) → i < rows l → get (change l i f) i ≡ f (get l i)
+  get-change-same l i f h = rw change-is (get-put-same l i _ h)
+
+  pub get-change-other : (l : List ℕ) (i j : ℕ) (f : A → A) → j ≢ i → get (change l i f) j ≡ get l j
+  get-change-other l i j f d = rw change-is (get-put-other l i j _ d)
+
+  pub change-none : (l : List ℕ) (i : ℕ) (f : A → A) → i ≡ 65535 → l ≡ change l i f
+  change-none l i f e = rw change-is (put-none l i _ e)
+
+  -- one number of row i stored where it lies is the row put back with that number changed
+  pub put-set : (l : List ℕ) (i j a : ℕ) → i < rows l → j < s .width
+      → set l (i * s .width + j) a ≡ put l i (s .value (set (s .numbers (get l i)) j a))
+  unfolding cut
+  put-set l i j a h b =
+      let w : ℕ = s .width in
+      let r : List ℕ = cut (s .width) l (i * s .width) in
+      let m : length r ≡ s .width = length-cut (s .width) l (i * s .width) (rows-fit l i h) in
+      sym (set-mid-at (i * s .width) (s .width) j l a (omega arith))
+      ∙ sym (put-in l i _ h
+      ∙ rw (get-in l i h, s .forth r m, s .forth (set r j a) (length-set r j a ∙ m), append-assoc, ← drop-drop))

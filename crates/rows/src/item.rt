@@ -1,0 +1,100 @@
+// The rows of the item table, as values.
+ghost use mathlib.Core.Path.{_≡_};
+ghost use lib.ListN.{length};
+ghost use Rattle.rows.specs.Item.{zeroItem, numbersOf, itemOf, itemAt, putItem};
+use numbers::index::ItemIndex;
+use numbers::index::ShelfIndex;
+
+// An item row, in the source's field order; `allocated` is 0 or 1.
+pub struct ItemRow {
+    pub x: u16,
+    pub width: u16,
+    pub prev: ItemIndex,
+    pub next: ItemIndex,
+    pub prev_unallocated: ItemIndex,
+    pub next_unallocated: ItemIndex,
+    pub shelf: ShelfIndex,
+    pub allocated: u16,
+    pub generation: u16,
+}
+
+// A row of zeros.
+pub fn no_item() -> ItemRow
+    ensures { λ r. ⌜ r ≡ zeroItem ⌝ }
+{
+    ItemRow {
+        x: 0,
+        width: 0,
+        prev: ItemIndex(0),
+        next: ItemIndex(0),
+        prev_unallocated: ItemIndex(0),
+        next_unallocated: ItemIndex(0),
+        shelf: ShelfIndex(0),
+        allocated: 0,
+        generation: 0,
+    }
+}
+
+// The row that these numbers are.
+fn read_item(r: &[u16]) -> ItemRow
+    requires { ⌜ length (now r) ≡ 9 ⌝ }
+    ensures { λ v. ⌜ v ≡ itemOf (now (r .entry)) ⌝ }
+{
+    ItemRow {
+        x: r[0],
+        width: r[1],
+        prev: ItemIndex(r[2]),
+        next: ItemIndex(r[3]),
+        prev_unallocated: ItemIndex(r[4]),
+        next_unallocated: ItemIndex(r[5]),
+        shelf: ShelfIndex(r[6]),
+        allocated: r[7],
+        generation: r[8],
+    }
+}
+
+// These numbers, all replaced by a row's.
+fn write_item(r: &mut [u16], v: ItemRow)
+    requires { ⌜ length (now r) ≡ 9 ⌝ }
+    ensures { λ _. ⌜ now (r .exit) ≡ numbersOf v ⌝ }
+{
+    r[0] = v.x;
+    r[1] = v.width;
+    r[2] = v.prev.0;
+    r[3] = v.next.0;
+    r[4] = v.prev_unallocated.0;
+    r[5] = v.next_unallocated.0;
+    r[6] = v.shelf.0;
+    r[7] = v.allocated;
+    r[8] = v.generation;
+}
+
+// The row at an index; zeros where the table has no such row.
+pub fn get_item(items: &[u16], at: ItemIndex) -> ItemRow
+    ensures { λ r. ⌜ r ≡ itemAt (now (items .entry)) at ⌝ }
+{
+    if at.0 == ItemIndex::NONE.0 {
+        return no_item();
+    }
+    let b = at.0 as usize * 9;
+    let e = b + 9;
+    if items.len() < e {
+        return no_item();
+    }
+    read_item(&items[b..e])
+}
+
+// The row goes to its index; nothing changes where the table has no such row.
+pub fn put_item(items: &mut [u16], at: ItemIndex, v: ItemRow)
+    ensures { λ _. ⌜ now (items .exit) ≡ putItem (now (items .entry)) at v ⌝ }
+{
+    if at.0 == ItemIndex::NONE.0 {
+        return;
+    }
+    let b = at.0 as usize * 9;
+    let e = b + 9;
+    if items.len() < e {
+        return;
+    }
+    write_item(&mut items[b..e], v);
+}

@@ -1,0 +1,96 @@
+// The rows of the shelf table, as values.
+ghost use mathlib.Core.Path.{_≡_};
+ghost use lib.ListN.{length};
+ghost use Rattle.rows.specs.Shelf.{zeroShelf, numbersOf, shelfOf, shelfAt, putShelf};
+use numbers::index::ItemIndex;
+use numbers::index::ShelfIndex;
+
+// A shelf row, in the source's field order; `is_empty` is 0 or 1.
+pub struct ShelfRow {
+    pub x: u16,
+    pub y: u16,
+    pub height: u16,
+    pub prev: ShelfIndex,
+    pub next: ShelfIndex,
+    pub first_item: ItemIndex,
+    pub first_unallocated: ItemIndex,
+    pub is_empty: u16,
+}
+
+// A row of zeros.
+pub fn no_shelf() -> ShelfRow
+    ensures { λ r. ⌜ r ≡ zeroShelf ⌝ }
+{
+    ShelfRow {
+        x: 0,
+        y: 0,
+        height: 0,
+        prev: ShelfIndex(0),
+        next: ShelfIndex(0),
+        first_item: ItemIndex(0),
+        first_unallocated: ItemIndex(0),
+        is_empty: 0,
+    }
+}
+
+// The row that these numbers are.
+fn read_shelf(r: &[u16]) -> ShelfRow
+    requires { ⌜ length (now r) ≡ 8 ⌝ }
+    ensures { λ v. ⌜ v ≡ shelfOf (now (r .entry)) ⌝ }
+{
+    ShelfRow {
+        x: r[0],
+        y: r[1],
+        height: r[2],
+        prev: ShelfIndex(r[3]),
+        next: ShelfIndex(r[4]),
+        first_item: ItemIndex(r[5]),
+        first_unallocated: ItemIndex(r[6]),
+        is_empty: r[7],
+    }
+}
+
+// These numbers, all replaced by a row's.
+fn write_shelf(r: &mut [u16], v: ShelfRow)
+    requires { ⌜ length (now r) ≡ 8 ⌝ }
+    ensures { λ _. ⌜ now (r .exit) ≡ numbersOf v ⌝ }
+{
+    r[0] = v.x;
+    r[1] = v.y;
+    r[2] = v.height;
+    r[3] = v.prev.0;
+    r[4] = v.next.0;
+    r[5] = v.first_item.0;
+    r[6] = v.first_unallocated.0;
+    r[7] = v.is_empty;
+}
+
+// The row at an index; zeros where the table has no such row.
+pub fn get_shelf(shelves: &[u16], at: ShelfIndex) -> ShelfRow
+    ensures { λ r. ⌜ r ≡ shelfAt (now (shelves .entry)) at ⌝ }
+{
+    if at.0 == ShelfIndex::NONE.0 {
+        return no_shelf();
+    }
+    let b = at.0 as usize * 8;
+    let e = b + 8;
+    if shelves.len() < e {
+        return no_shelf();
+    }
+    read_shelf(&shelves[b..e])
+}
+
+// The row goes to its index; nothing changes where the table has no such row.
+pub fn put_shelf(shelves: &mut [u16], at: ShelfIndex, v: ShelfRow)
+    ensures { λ _. ⌜ now (shelves .exit) ≡ putShelf (now (shelves .entry)) at v ⌝ }
+{
+    if at.0 == ShelfIndex::NONE.0 {
+        return;
+    }
+    let b = at.0 as usize * 8;
+    let e = b + 8;
+    if shelves.len() < e {
+        return;
+    }
+    write_shelf(&mut shelves[b..e], v);
+}
