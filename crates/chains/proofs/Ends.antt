@@ -1,0 +1,58 @@
+-- A chain that ends: its rows are the only ones that lead from its first row to no row, they are distinct, and a walk of as many steps as
+-- there are used rows meets them all. So a walk needs no marks, and no links back. Assumes nothing.
+use mathlib.Core.Path.{_≡_, refl, sym, ap, _∙_}
+use mathlib.Core.Logic.{_≢_, _⊎_, inl, inr, ⊎-elim}
+use mathlib.Core.Bool.{Bool, true, false}
+use mathlib.Core.List.{List, [], _∷_, _++_, List·Memᴰ, List·Memᴰ·head, List·Memᴰ·tail, List·Memᴰ·not-nil, List·Memᴰ·cases-cons}
+use Prim.Native.Nat.{ℕ, zero, suc, _+_, _≤_, _<_}
+use native.Mathlib.Omega.{arith}
+use borrow.Author.Tests.{eq-eqb, ne-eqb}
+use lib.Dec.{eqb}
+use lib.ListN.{length}
+use Rattle.numbers.specs.Index.{noRow}
+use Rattle.chains.specs.Lists.{Distinct}
+use Rattle.chains.specs.Chain.{firstOf}
+use Rattle.chains.specs.Walk.{rowsFrom, Ends}
+use Rattle.chains.proofs.Lists.{distinct-below}
+
+module _ (nx : ℕ → ℕ) (n : ℕ) (b : n ≤ noRow) where
+  pub ends-below : (rows : List ℕ) → Ends nx n rows → (x : ℕ) → List·Memᴰ x rows → x < n
+  ends-below [] l x k = absurd (List·Memᴰ·not-nil k)
+  ends-below (r ∷ rs) l x k = ⊎-elim (λ q. omega arith) (ends-below rs (l .2) x) (List·Memᴰ·cases-cons k)
+
+  -- two chains that end and start alike are the same
+  pub ends-unique : (xs ys : List ℕ) → firstOf xs ≡ firstOf ys → Ends nx n xs → Ends nx n ys → xs ≡ ys
+  ends-unique [] [] e l k = refl
+  ends-unique [] (y ∷ ys) e l k = absurd (omega arith)
+  ends-unique (x ∷ xs) [] e l k = absurd (omega arith)
+  ends-unique (x ∷ xs) (y ∷ ys) e l k =
+      let q : xs ≡ ys = ends-unique xs ys (sym (l .1) ∙ ap nx e ∙ k .1) (l .2) (k .2) in cc
+
+  -- from a row of a chain that ends, a chain no longer ends
+  ends-from : (rows : List ℕ) (x : ℕ) → List·Memᴰ x rows → Ends nx n rows → (xs : List ℕ) × Ends nx n (x ∷ xs) × (suc (length xs) ≤ length rows)
+  ends-from [] x k l = absurd (List·Memᴰ·not-nil k)
+  ends-from (r ∷ rs) x k l =
+      ⊎-elim
+      (λ q. (rs, rw q l, omega arith))
+      (λ q. let f = ends-from rs x q (l .2) in (f .0, f .1, omega arith))
+      (List·Memᴰ·cases-cons k)
+
+  pub ends-distinct : (rows : List ℕ) → Ends nx n rows → Distinct rows
+  ends-distinct [] l = tt
+  ends-distinct (r ∷ rs) l = (
+    λ k.
+        let f = ends-from rs r k (l .2) in
+        let q : r ∷ rs ≡ r ∷ f .0 = ends-unique (r ∷ rs) (r ∷ f .0) refl l (f .1) in
+        omega (arith, ap length q),
+    ends-distinct rs (l .2),
+  )
+
+  pub ends-length : (rows : List ℕ) → Ends nx n rows → length rows ≤ n
+  ends-length rows l = distinct-below rows n (ends-distinct rows l) (ends-below rows l)
+
+  -- the rows that a walk meets are those
+  pub ends-rows : (fuel : ℕ) (rows : List ℕ) → length rows ≤ fuel → Ends nx n rows → rowsFrom nx fuel (firstOf rows) ≡ rows
+  ends-rows zero [] h l = refl
+  ends-rows zero (r ∷ rs) h l = absurd (omega arith)
+  ends-rows (suc k) [] h l = refl
+  ends-rows (suc k) (r ∷ rs) h l = rw (ne-eqb r noRow (λ e. omega arith), rowsFrom) (rw (l .1) (rw (ends-rows k rs (omega arith) (l .2))))

@@ -1,0 +1,5 @@
+pub mod Lists
+pub mod Chains
+pub mod Changes
+pub mod Ends
+pub mod Walks

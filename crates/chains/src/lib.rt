@@ -1,0 +1,1 @@
+// The theory of chains has no code.
