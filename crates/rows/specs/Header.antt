@@ -1,18 +1,69 @@
 -- The header: eleven numbers in document 01's order. Assumes nothing.
+use mathlib.Core.List.{List, [], _∷_}
+use Prim.Native.Nat.{ℕ}
+use lib.ListN.{getD, set}
+use Rattle.numbers.specs.declared.index.ItemIndex.{ItemIndex}
+use Rattle.numbers.specs.declared.index.ShelfIndex.{ShelfIndex}
 use Rattle.rows.specs.declared.header.Header.{Header}
+
+-- a header's eleven numbers, and the header of eleven numbers
+abbrev pub numbersOf : Header → List ℕ
+numbersOf h =
+    h .width ∷ h .height ∷ h .«align_width» ∷ h .«align_height» ∷ h .vertical ∷ h .«shelf_width» ∷ h .«used_shelves» ∷ h .«used_items»
+    ∷ h .«free_items» .0 ∷ h .«free_shelves» .0 ∷ h .occupied ∷ []
+
+abbrev pub headerOf : List ℕ → Header
+headerOf r = record {
+  width = getD r 0 0;
+  height = getD r 1 0;
+  «align_width» = getD r 2 0;
+  «align_height» = getD r 3 0;
+  vertical = getD r 4 0;
+  «shelf_width» = getD r 5 0;
+  «used_shelves» = getD r 6 0;
+  «used_items» = getD r 7 0;
+  «free_items» = record { 0 = getD r 8 0 };
+  «free_shelves» = record { 0 = getD r 9 0 };
+  occupied = getD r 10 0;
+}
 
 -- the header of a refused create
 abbrev pub zeroHeader : Header
-zeroHeader = record {
-  width = 0;
-  height = 0;
-  «align_width» = 0;
-  «align_height» = 0;
-  vertical = 0;
-  «shelf_width» = 0;
-  «used_shelves» = 0;
-  «used_items» = 0;
-  «free_items» = record { 0 = 0 };
-  «free_shelves» = record { 0 = 0 };
-  occupied = 0;
-}
+zeroHeader = headerOf []
+
+-- a header with one of its numbers replaced
+abbrev replaced : ℕ → ℕ → Header → Header
+replaced place n h = headerOf (set (numbersOf h) place n)
+
+unfoldable pub withAtlasWidth : ℕ → Header → Header
+withAtlasWidth width h = replaced 0 width h
+
+unfoldable pub withAtlasHeight : ℕ → Header → Header
+withAtlasHeight height h = replaced 1 height h
+
+unfoldable pub withAlignWidth : ℕ → Header → Header
+withAlignWidth align h = replaced 2 align h
+
+unfoldable pub withAlignHeight : ℕ → Header → Header
+withAlignHeight align h = replaced 3 align h
+
+unfoldable pub withVertical : ℕ → Header → Header
+withVertical flag h = replaced 4 flag h
+
+unfoldable pub withShelfWidth : ℕ → Header → Header
+withShelfWidth width h = replaced 5 width h
+
+unfoldable pub withUsedShelves : ℕ → Header → Header
+withUsedShelves n h = replaced 6 n h
+
+unfoldable pub withUsedItems : ℕ → Header → Header
+withUsedItems n h = replaced 7 n h
+
+unfoldable pub withFreeItems : ItemIndex → Header → Header
+withFreeItems head h = replaced 8 (head .0) h
+
+unfoldable pub withFreeShelves : ShelfIndex → Header → Header
+withFreeShelves head h = replaced 9 (head .0) h
+
+unfoldable pub withOccupied : ℕ → Header → Header
+withOccupied area h = replaced 10 area h

@@ -1,72 +1,18 @@
--- A flat table of numbers as rows of one width: what a row is, what storing one does, and every law that the crate uses of either.
+-- A flat table of numbers as rows of one width: what a row is, what storing one does, and the laws of both.
 -- The width is a variable throughout. Assumes nothing.
 use mathlib.Core.Path.{_≡_, refl, sym, ap, _∙_, subst}
 use mathlib.Core.Logic.{_≢_, _⊎_, inl, inr, ⊎-elim}
-use mathlib.Core.List.{List, [], _∷_, _++_, append-assoc, append-nil}
-use Prim.Native.Nat.{ℕ, zero, suc, _+_, _-_, _*_, _/_, _%_, min, _≤_, _<_}
+use mathlib.Core.List.{List, [], _++_, append-assoc}
+use Prim.Native.Nat.{ℕ, suc, _+_, _-_, _*_, _/_, _%_, min, _≤_, _<_}
 use native.Mathlib.Nat.{suc-mul, mul-le-mul-right, add-sub-cancel-left, div-add-mod', mod-lt, le-div-iff-mul-le, min-le-left, min-le-right, le-min, div-mul-le-self}
 use native.Mathlib.Decide.{decLt, ℕ-discrete}
 use native.Mathlib.Omega.{arith}
-use lib.ListN.{length, getD, set, take, drop, length-append, length-take, length-drop, length-set, take-append-drop, drop-of-length-le, List·getD-append}
-use mathlib.Core.Bool.{Bool, true, false}
-use Rattle.numbers.specs.Pick.{pick}
-use Rattle.numbers.specs.Index.{noRow}
 use lib.Dec.{ltb}
-use borrow.Rule.Slice.PartMut.{set-mid-at}
+use lib.ListN.{length, getD, take, drop, length-take, length-drop}
+use lib.Seq.{getD-drop, ext-getD, drop-drop}
 use borrow.Author.Tests.{lt-ltb, le-ltb}
-use lib.Seq.{length-take-le, getD-append-add, getD-take, getD-drop, ext-getD, take-add, drop-cons, drop-drop, sets, sets-eq, getD-set-same, getD-set-other}
-
--- the k numbers from b on, and the table with them replaced
-cut : ℕ → List ℕ → ℕ → List ℕ
-cut k l b = take k (drop b l)
-
-splice : ℕ → List ℕ → ℕ → List ℕ → List ℕ
-splice k l b r = take b l ++ r ++ drop (b + k) l
-
-length-cut : (k : ℕ) (l : List ℕ) (b : ℕ) → b + k ≤ length l → length (cut k l b) ≡ k
-unfolding cut
-length-cut k l b h = length-take-le k (drop b l) (simp length-drop (omega arith))
-
-getD-cut : (k : ℕ) (l : List ℕ) (b n : ℕ) → n < k → getD (cut k l b) n 0 ≡ getD l (b + n) 0
-unfolding cut
-getD-cut k l b n h = getD-take k (drop b l) n 0 h ∙ getD-drop b l n 0
-
-splice-cut : (k : ℕ) (l : List ℕ) (b : ℕ) → splice k l b (cut k l b) ≡ l
-unfolding cut splice
-splice-cut k l b = ap (λ (p : List ℕ). p ++ drop (b + k) l) (sym (take-add b k l)) ∙ take-append-drop (b + k) l
-
-module _ (k : ℕ) (l : List ℕ) (b : ℕ) (r : List ℕ) (long : length r ≡ k) (fits : b + k ≤ length l) where
-  head-length : length (take b l) ≡ b
-  head-length = length-take-le b l (omega arith)
-
-  front-length : length (take b l ++ r) ≡ b + k
-  front-length = length-append (take b l) r ∙ (cc (head-length, long))
-
-  length-splice : length (splice k l b r) ≡ length l
-  unfolding splice
-  length-splice =
-      length-append (take b l ++ r) (drop (b + k) l) ∙ (omega (arith, front-length, length-drop (b + k) l))
-
-  before : (n : ℕ) → n < b → getD (splice k l b r) n 0 ≡ getD l n 0
-  unfolding splice
-  before n h =
-      List·getD-append (take b l ++ r) (drop (b + k) l) 0 n (omega (arith, front-length))
-      ∙ List·getD-append (take b l) r 0 n (omega (arith, head-length))
-      ∙ getD-take b l n 0 h
-
-  inside : (n : ℕ) → n < k → getD (splice k l b r) (b + n) 0 ≡ getD r n 0
-  unfolding splice
-  inside n h =
-      List·getD-append (take b l ++ r) (drop (b + k) l) 0 (b + n) (omega (arith, front-length))
-      ∙ subst (λ (m : ℕ). getD (take b l ++ r) (m + n) 0 ≡ getD r n 0) head-length (getD-append-add (take b l) r n 0)
-
-  after : (n : ℕ) → b + k ≤ n → getD (splice k l b r) n 0 ≡ getD l n 0
-  unfolding splice
-  after n h =
-      let e : b + k + (n - (b + k)) ≡ n = omega arith in
-      subst (λ (m : ℕ). getD (take b l ++ r ++ drop (b + k) l) m 0 ≡ getD l m 0) e
-      (subst (λ (m : ℕ). getD (take b l ++ r ++ drop (b + k) l) (m + (n - (b + k))) 0 ≡ getD l (b + k + (n - (b + k))) 0) front-length
-      (getD-append-add (take b l ++ r) (drop (b + k) l) (n - (b + k)) 0 ∙ getD-drop (b + k) l (n - (b + k)) 0))
+use Rattle.numbers.specs.Pick.{pick}
+use Rattle.rows.specs.Part.{cut, splice, length-cut, getD-cut, length-splice, before, inside, after}
 
 -- How a value of A stands in a table: as a row of `width` numbers.
 pub record Shape (A : Type 0) : Type 0 where
@@ -77,26 +23,6 @@ pub record Shape (A : Type 0) : Type 0 where
   pub long : (a : A) → length (numbers a) ≡ width
   pub back : (a : A) → value (numbers a) ≡ a
   pub forth : (r : List ℕ) → length r ≡ width → numbers (value r) ≡ r
-
--- k elements from i on, each taken out by its index
-abbrev pub each : ℕ → ℕ → List ℕ → List ℕ
-each zero i r = []
-each (suc k) i r = getD r i 0 ∷ each k (suc i) r
-
-each-from : (k i : ℕ) (r : List ℕ) → length r ≡ i + k → each k i r ≡ drop i r
-each-from zero i r e = sym (drop-of-length-le r {i = i} (omega arith))
-each-from (suc k) i r e = rw (drop-cons r i 0 (omega arith)) (ap (λ (t : List ℕ). getD r i 0 ∷ t) (each-from k (suc i) r (omega arith)))
-
--- a list of k is its elements: what `forth` asks of a shape whose `value` goes by indices
-pub each-all : (k : ℕ) (r : List ℕ) → length r ≡ k → each k 0 r ≡ r
-each-all k r e = each-from k 0 r (omega arith)
-
--- a list that is stored over whole is what was stored: `sets` at a list that is written out computes to the stores themselves
-pub sets-all : (l vs : List ℕ) → length l ≡ length vs → sets l 0 vs ≡ vs
-sets-all l vs e =
-    sets-eq vs l 0 (omega arith)
-    ∙ ap (λ (t : List ℕ). vs ++ t) (drop-of-length-le l {i = 0 + length vs} (omega arith))
-    ∙ append-nil vs
 
 module _ {A : Type 0} (s : Shape A) where
   -- how many rows a table has: the whole ones, and never a row 65535, which is the index that names none
@@ -114,6 +40,10 @@ module _ {A : Type 0} (s : Shape A) where
   -- the table with row i replaced; the table itself where there is no row i
   pub put : List ℕ → ℕ → A → List ℕ
   put l i v = pick (ltb i (rows l)) (splice (s .width) l (i * s .width) (s .numbers v)) l
+
+  pub rows-are : (l : List ℕ) → rows l ≡ min (length l / s .width) 65535
+  unfolding rows
+  rows-are l = refl
 
   pub rows-few : (l : List ℕ) → rows l ≤ 65535
   unfolding rows
@@ -301,38 +231,3 @@ module _ {A : Type 0} (s : Shape A) where
       go (yes e) (no f) = get-put-other _ j n w f ∙ rw e (get-put-same l i v (rw (← e) r) ∙ sym (get-put-same _ i v (rw (rows-put, ← e) r)))
       go (no e) (yes f) = rw f (get-put-same _ j w (rw (rows-put, ← f) r) ∙ sym (get-put-other _ i j v (λ q. d (sym q)) ∙ get-put-same l j w (rw (← f) r)))
       go (no e) (no f) = get-put-other _ j n w f ∙ get-put-other _ i n v e ∙ sym (get-put-other _ i n v e ∙ get-put-other _ j n w f)
-
-  -- row i changed by f. It is shut: what it does is said by the laws below, so that a run of changes stays as short as it is written
-  pub change : List ℕ → ℕ → (A → A) → List ℕ
-  change l i f = put l i (f (get l i))
-
-  pub change-is : (l : List ℕ) (i : ℕ) (f : A → A) → change l i f ≡ put l i (f (get l i))
-  unfolding change
-  change-is l i f = refl
-
-  pub length-change : (l : List ℕ) (i : ℕ) (f : A → A) → length (change l i f) ≡ length l
-  length-change l i f = rw change-is (length-put l i _)
-
-  pub rows-change : (l : List ℕ) (i : ℕ) (f : A → A) → rows (change l i f) ≡ rows l
-  rows-change l i f = rw change-is (rows-put l i _)
-
-  pub get-change-same : (l : List ℕ) (i : ℕ) (f : A → A) → i < rows l → get (change l i f) i ≡ f (get l i)
-  get-change-same l i f h = rw change-is (get-put-same l i _ h)
-
-  pub get-change-other : (l : List ℕ) (i j : ℕ) (f : A → A) → j ≢ i → get (change l i f) j ≡ get l j
-  get-change-other l i j f d = rw change-is (get-put-other l i j _ d)
-
-  pub change-none : (l : List ℕ) (i : ℕ) (f : A → A) → i ≡ 65535 → l ≡ change l i f
-  change-none l i f e = rw change-is (put-none l i _ e)
-
-  -- one number of row i stored where it lies is the row put back with that number changed
-  pub put-set : (l : List ℕ) (i j a : ℕ) → i < rows l → j < s .width
-      → set l (i * s .width + j) a ≡ put l i (s .value (set (s .numbers (get l i)) j a))
-  unfolding cut
-  put-set l i j a h b =
-      let w : ℕ = s .width in
-      let r : List ℕ = cut (s .width) l (i * s .width) in
-      let m : length r ≡ s .width = length-cut (s .width) l (i * s .width) (rows-fit l i h) in
-      sym (set-mid-at (i * s .width) (s .width) j l a (omega arith))
-      ∙ sym (put-in l i _ h
-      ∙ rw (get-in l i h, s .forth r m, s .forth (set r j a) (length-set r j a ∙ m), append-assoc, ← drop-drop))

@@ -4,10 +4,13 @@ use mathlib.Core.Path.{refl}
 use mathlib.Core.List.{List, [], _∷_}
 use Prim.Native.Nat.{ℕ}
 use lib.Dec.{lit<}
-use lib.ListN.{getD}
+use lib.ListN.{getD, set}
+use Rattle.numbers.specs.declared.index.ItemIndex.{ItemIndex}
 use Rattle.numbers.specs.declared.index.ShelfIndex.{ShelfIndex}
 use Rattle.rows.specs.declared.shelf.ShelfRow.{ShelfRow}
-use Rattle.rows.specs.Row.{Shape, rows, get, put, change, each-all}
+use Rattle.rows.specs.Part.{each-all}
+use Rattle.rows.specs.Row.{Shape, rows, get, put}
+use Rattle.rows.specs.Change.{change}
 
 -- a row's eight numbers, in the source's order, and the row of eight numbers
 abbrev pub numbersOf : ShelfRow → List ℕ
@@ -40,9 +43,43 @@ shelves = record {
   forth = each-all 8;
 }
 
--- the row at an index, and the table with another row there
+-- how many rows a table has, the row at an index, and the table with another row there or with that row changed
+abbrev pub shelfCapacity : List ℕ → ℕ
+shelfCapacity l = rows shelves l
+
 abbrev pub shelfAt : List ℕ → ShelfIndex → ShelfRow
 shelfAt l at = get shelves l (at .0)
 
 abbrev pub putShelf : List ℕ → ShelfIndex → ShelfRow → List ℕ
 putShelf l at v = put shelves l (at .0) v
+
+abbrev pub changeShelf : List ℕ → ShelfIndex → (ShelfRow → ShelfRow) → List ℕ
+changeShelf l at f = change shelves l (at .0) f
+
+-- a row with one of its numbers replaced
+abbrev replaced : ℕ → ℕ → ShelfRow → ShelfRow
+replaced place n v = shelfOf (set (numbersOf v) place n)
+
+unfoldable pub withShelfX : ℕ → ShelfRow → ShelfRow
+withShelfX x v = replaced 0 x v
+
+unfoldable pub withY : ℕ → ShelfRow → ShelfRow
+withY y v = replaced 1 y v
+
+unfoldable pub withHeight : ℕ → ShelfRow → ShelfRow
+withHeight height v = replaced 2 height v
+
+unfoldable pub withShelfPrev : ShelfIndex → ShelfRow → ShelfRow
+withShelfPrev prev v = replaced 3 (prev .0) v
+
+unfoldable pub withShelfNext : ShelfIndex → ShelfRow → ShelfRow
+withShelfNext next v = replaced 4 (next .0) v
+
+unfoldable pub withFirstItem : ItemIndex → ShelfRow → ShelfRow
+withFirstItem first v = replaced 5 (first .0) v
+
+unfoldable pub withFirstFree : ItemIndex → ShelfRow → ShelfRow
+withFirstFree first v = replaced 6 (first .0) v
+
+unfoldable pub withEmpty : ℕ → ShelfRow → ShelfRow
+withEmpty flag v = replaced 7 flag v

@@ -1,7 +1,7 @@
 // The rows of the item table, as values.
 ghost use mathlib.Core.Path.{_≡_};
 ghost use lib.ListN.{length};
-ghost use Rattle.rows.specs.Item.{zeroItem, numbersOf, itemOf, itemAt, putItem};
+ghost use Rattle.rows.specs.Item.{zeroItem, numbersOf, itemOf, itemCapacity, itemAt, putItem};
 use numbers::index::ItemIndex;
 use numbers::index::ShelfIndex;
 
@@ -67,6 +67,17 @@ fn write_item(r: &mut [u16], v: ItemRow)
     r[6] = v.shelf.0;
     r[7] = v.allocated;
     r[8] = v.generation;
+}
+
+// How many rows a table has: the whole ones, at most 65535.
+pub fn item_capacity(items: &[u16]) -> u16
+    ensures { λ r. ⌜ r ≡ itemCapacity (now (items .entry)) ⌝ }
+{
+    let n = items.len() / 9;
+    if 65535 < n {
+        return 65535;
+    }
+    n as u16
 }
 
 // The row at an index; zeros where the table has no such row.

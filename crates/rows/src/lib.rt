@@ -1,4 +1,5 @@
 // The header and the rows of the two lent tables, as values. Nothing above this crate sees an offset or the width of a row.
 pub mod header;
 pub mod item;
+pub mod pool;
 pub mod shelf;

@@ -1,7 +1,7 @@
 // The rows of the shelf table, as values.
 ghost use mathlib.Core.Path.{_≡_};
 ghost use lib.ListN.{length};
-ghost use Rattle.rows.specs.Shelf.{zeroShelf, numbersOf, shelfOf, shelfAt, putShelf};
+ghost use Rattle.rows.specs.Shelf.{zeroShelf, numbersOf, shelfOf, shelfCapacity, shelfAt, putShelf};
 use numbers::index::ItemIndex;
 use numbers::index::ShelfIndex;
 
@@ -63,6 +63,17 @@ fn write_shelf(r: &mut [u16], v: ShelfRow)
     r[5] = v.first_item.0;
     r[6] = v.first_unallocated.0;
     r[7] = v.is_empty;
+}
+
+// How many rows a table has: the whole ones, at most 65535.
+pub fn shelf_capacity(shelves: &[u16]) -> u16
+    ensures { λ r. ⌜ r ≡ shelfCapacity (now (shelves .entry)) ⌝ }
+{
+    let n = shelves.len() / 8;
+    if 65535 < n {
+        return 65535;
+    }
+    n as u16
 }
 
 // The row at an index; zeros where the table has no such row.

@@ -1,7 +1,7 @@
 use native.Mathlib.Omega.{arith}
 use lib.ListN.{length-set}
 use denote.Ref.{now}
-use Rattle.rows.specs.Row.{sets-all}
+use Rattle.rows.specs.Part.{sets-all}
 use Rattle.rows.specs.Item.{numbersOf}
 use Rattle.rows.proofs.item.write_item.Statement.{statement}
 use Rattle.rows.proofs.item.write_item.Tie as tie
