@@ -1,2 +1,3 @@
 // The numbers of document 01: indices, roundings, limits and thresholds. No table is read here.
 pub mod index;
+pub mod round;
