@@ -1,2 +1,5 @@
 // The numbers of document 01: indices, roundings, limits and thresholds. No table is read here.
+pub mod bands;
+pub mod fit;
 pub mod index;
+pub mod round;
