@@ -2,4 +2,6 @@
 pub mod bands;
 pub mod fit;
 pub mod index;
+pub mod limits;
+pub mod request;
 pub mod round;

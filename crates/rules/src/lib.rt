@@ -1,0 +1,1 @@
+// The rules of document 01 have no code.
