@@ -9,6 +9,7 @@ use lib.Signed.{ltZ, nonNeg}
 use borrow.Author.Tests.{ltb-true, leb-true}
 use Rattle.numbers.specs.declared.sides.Side.{Side}
 use Rattle.numbers.specs.declared.sides.Side.the-variants.{Fits, Bad}
+use Rattle.numbers.specs.Tests.{both}
 use Rattle.numbers.specs.Pick.{pick, pick-yes, pick-no}
 
 -- from 1 to a greatest number
@@ -31,10 +32,6 @@ unfolding oneTo natural
 sideOf raw = pick (oneTo 65535 (natural raw)) (Fits (natural raw)) Bad
 
 -- ---- laws
-
-both : (a b : Bool) → (a && b) ≡ true → (a ≡ true) × (b ≡ true)
-both true b e = (refl, e)
-both false b e = absurd (false≢true e)
 
 -- what the test says
 pub one-to-true : (most n : ℕ) → oneTo most n ≡ true → (1 ≤ n) × (n ≤ most)

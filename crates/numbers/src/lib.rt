@@ -3,6 +3,7 @@ pub mod axes;
 pub mod bands;
 pub mod fit;
 pub mod index;
+pub mod limits;
 pub mod request;
 pub mod round;
 pub mod sides;
