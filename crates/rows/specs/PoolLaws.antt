@@ -4,6 +4,7 @@ use mathlib.Core.Logic.{_≢_}
 use mathlib.Core.List.{List}
 use Prim.Native.Nat.{ℕ, _+_, _<_}
 use native.Mathlib.Nat.{mod-eq-of-lt}
+use native.Mathlib.Decide.{ℕ-discrete}
 use native.Mathlib.Omega.{arith}
 use lib.ListN.{length}
 use borrow.Author.Tests.{eq-eqb, ne-eqb}
@@ -39,6 +40,13 @@ module _ (head used next : ℕ) where
   pub new-unused : head ≡ noRow → (newRow head used ≡ used) × (headAfter head next ≡ head) × (usedAfter head used ≡ oneMore used)
   unfolding newRow headAfter usedAfter
   new-unused n = let e = eq-eqb head noRow n in (rw e, rw e, rw e)
+
+-- the row is a used one then, where the head is a used row or none and there is an unused row to take
+pub new-used : (head used : ℕ) → (head ≢ noRow → head < used) → used < 65535 → newRow head used < usedAfter head used
+new-used head used named few = go (ℕ-discrete head noRow) where
+  go : Dec (head ≡ noRow) → newRow head used < usedAfter head used
+  go (yes e) = omega (arith, new-unused head used 0 e, one-more used few)
+  go (no n) = omega (arith, new-freed head used 0 n, named n)
 
 module _ (l : List ℕ) (h : Header) where
   pub item-freed : h .«free_items» .0 ≢ noRow

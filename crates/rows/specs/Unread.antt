@@ -1,9 +1,9 @@
 -- The numbers after the used rows are never read: tables that agree on their used rows give the same answers, and agree on the used rows
--- after it. That those numbers change only when a row is taken into use is `OneRow` of PoolLaws. Assumes nothing.
+-- after it. They change only when a row is taken into use. Assumes nothing.
 use mathlib.Core.Path.{_≡_, sym, ap, _∙_}
 use mathlib.Core.Logic.{_≢_}
 use mathlib.Core.List.{List}
-use Prim.Native.Nat.{ℕ, _+_, _^_, _<_}
+use Prim.Native.Nat.{ℕ, _+_, _^_, _≤_, _<_}
 use native.Mathlib.Decide.{decLt, ℕ-discrete}
 use native.Mathlib.Nat.{mod-le}
 use native.Mathlib.Omega.{arith}
@@ -21,7 +21,7 @@ use Rattle.rows.specs.Header.{withUsedItems, withUsedShelves, withFreeIt
 use Rattle.rows.specs.Item.{items}
 use Rattle.rows.specs.Shelf.{shelves, shelfAt}
 use Rattle.rows.specs.Pool.{oneMore, newRow, headAfter, usedAfter, newItem, newGeneration, addItem, itemTaken, addedItem, removeItem, newShelf, addShelf, shelfTaken, addedShelf, removeShelf, removeShelfItem, shelfFreed}
-use Rattle.rows.specs.PoolLaws.{new-freed, new-unused}
+use Rattle.rows.specs.PoolLaws.{new-freed, new-unused, new-used}
 
 -- two tables with as many rows each, the first n of which are the same
 pub record Agree {A : Type 0} (s : Shape A) (n : ℕ) (l t : List ℕ) : Type 0 where
@@ -57,6 +57,11 @@ used-but-new head used j b n = go (ℕ-discrete head noRow) where
   go : Dec (head ≡ noRow) → j < used
   go (yes e) = omega (arith, n, new-unused head used 0 e, mod-le (used + 1) (2 ^ 16))
   go (no d) = omega (arith, new-freed head used 0 d)
+
+-- a row that is not used even after a row was taken stays as it was; what is left after the last row does too, by `rest-put`
+pub unused-stays : {A : Type 0} (s : Shape A) (l : List ℕ) (head used : ℕ) (v : A) (j : ℕ) → (head ≢ noRow → head < used) → used < 65535
+    → usedAfter head used ≤ j → get s (put s l (newRow head used) v) j ≡ get s l j
+unused-stays s l head used v j named few b = get-put-other s l (newRow head used) j v (λ e. omega (arith, new-used head used named few))
 
 module _ (l t : List ℕ) (h : Header) where
   -- the head of the freed items is a used row or none
