@@ -1,2 +1,6 @@
 pub mod Lists
 pub mod Once
+pub mod Follow
+pub mod Flags
+pub mod Items
+pub mod FreeList

@@ -1,9 +1,10 @@
 -- Lists of rows: what holds of each, what holds along a walk, and the rows that are gathered from them. Assumes nothing.
 use Prim.Native.Nat.{ℕ}
-use mathlib.Core.Path.{_≡_, refl, sym, _∙_}
+use mathlib.Core.Path.{_≡_, refl, sym, ap, _∙_}
 use mathlib.Core.Logic.{⊎-elim}
-use mathlib.Core.List.{List, [], _∷_, _++_, List·Memᴰ·head, List·Memᴰ·tail, List·Memᴰ·not-nil, List·Memᴰ·cases-cons, List·Memᴰ·append-cases, Memᴰ·cast, Memᴰ·append-left, Memᴰ·append-right}
+use mathlib.Core.List.{List, [], _∷_, _++_, map, List·Memᴰ·head, List·Memᴰ·tail, List·Memᴰ·not-nil, List·Memᴰ·cases-cons, List·Memᴰ·append-cases, Memᴰ·cast, Memᴰ·append-left, Memᴰ·append-right}
 use Rattle.chains.specs.Lists.{_∈_, Distinct, Each, gather}
+use Rattle.chains.specs.Chain.{firstRow, firstOf}
 use Rattle.chains.specs.Walk.{Holds}
 use Rattle.chains.proofs.Lists.{distinct-append}
 
@@ -46,3 +47,40 @@ gather-distinct f of (r ∷ l) d e n =
     let q = gather-in f (λ s. s ∈ l) l x (each-from (λ s. s ∈ l) l (λ s m. m)) g in
     let same : r ≡ q .0 = sym (n r (List·Memᴰ·head refl) x k) ∙ n (q .0) (List·Memᴰ·tail (q .1)) x (q .2) in
     d .0 (Memᴰ·cast same (q .1)))
+
+-- ---- what is read from each row of a list
+
+module _ {E : Type 0} (row : E → ℕ) (f : ℕ → E) where
+  -- each element is what is read from its row
+  pub read-all : (xs : List E) → Each (λ e. f (row e) ≡ e) xs → map f (gather (λ e. row e ∷ []) xs) ≡ xs
+  read-all [] h = refl
+  read-all (x ∷ xs) h = let rest : map f (gather (λ e. row e ∷ []) xs) ≡ xs = read-all xs (h .1) in cc (h .0)
+
+  module _ (own : (r : ℕ) → row (f r) ≡ r) where
+    pub rows-map : (l : List ℕ) → gather (λ e. row e ∷ []) (map f l) ≡ l
+    rows-map [] = refl
+    rows-map (r ∷ l) = cc (own r, rows-map l)
+
+    pub first-map : (l : List ℕ) → firstRow row (map f l) ≡ firstOf l
+    first-map [] = refl
+    first-map (r ∷ l) = own r
+
+pub each-map : {E : Type 0} (f : ℕ → E) (P : E → Type 0) (l : List ℕ) → Each (λ r. P (f r)) l → Each P (map f l)
+each-map f P [] e = tt
+each-map f P (r ∷ l) e = (e .0, each-map f P l (e .1))
+
+pub each-unmap : {E : Type 0} (f : ℕ → E) (P : E → Type 0) (l : List ℕ) → Each P (map f l) → Each (λ r. P (f r)) l
+each-unmap f P [] e = tt
+each-unmap f P (r ∷ l) e = (e .0, each-unmap f P l (e .1))
+
+pub gather-map : {E : Type 0} (f : ℕ → E) (g : E → List ℕ) (k : ℕ → List ℕ) → ((r : ℕ) → g (f r) ≡ k r) → (l : List ℕ) → gather g (map f l) ≡ gather k l
+gather-map f g k h [] = refl
+gather-map f g k h (r ∷ l) = cc (h r, gather-map f g k h l)
+
+pub in-gather : (f : ℕ → List ℕ) (l : List ℕ) (r x : ℕ) → r ∈ l → x ∈ f r → x ∈ gather f l
+in-gather f [] r x m k = absurd (List·Memᴰ·not-nil m)
+in-gather f (q ∷ l) r x m k =
+    ⊎-elim (λ e. Memᴰ·append-left (gather f l) (rw e at k)) (λ w. Memᴰ·append-right (f q) (in-gather f l r x w k)) (List·Memᴰ·cases-cons m)
+
+pub gathered : (f : ℕ → List ℕ) (l : List ℕ) (x : ℕ) → x ∈ gather f l → (r : ℕ) × (r ∈ l) × (x ∈ f r)
+gathered f l x m = gather-in f (λ r. r ∈ l) l x (each-from (λ r. r ∈ l) l (λ r k. k)) m
