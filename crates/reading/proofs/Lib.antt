@@ -4,3 +4,4 @@ pub mod Follow
 pub mod Flags
 pub mod Items
 pub mod FreeList
+pub mod Shelves
