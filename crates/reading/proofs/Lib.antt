@@ -5,3 +5,4 @@ pub mod Flags
 pub mod Items
 pub mod FreeList
 pub mod Shelves
+pub mod Freed
