@@ -6,3 +6,5 @@ pub mod Items
 pub mod FreeList
 pub mod Shelves
 pub mod Freed
+pub mod Serving
+pub mod FromRules
