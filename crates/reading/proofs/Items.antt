@@ -15,6 +15,7 @@ use Rattle.chains.specs.Lists.{_∈_, Each, Neighbours}
 use Rattle.chains.specs.Chain.{Chain}
 use Rattle.chains.specs.Walk.{Ends, Holds}
 use Rattle.rules.specs.Limits.{alongStep}
+use Rattle.rules.specs.Atlas.{Item}
 use Rattle.rules.specs.Lies.{flag, item}
 use Rattle.rules.specs.Keeps.{Filled, NotBothFree}
 use Rattle.rules.specs.Audit.{limitsOf, itemNext, itemIn, Along, ItemRight, along}
@@ -70,9 +71,9 @@ module _ (h : Header) (I : List ℕ) (on : ℕ) where
 
   -- ---- from the items to the rows
 
-  pub item-names : (r p n : ℕ) → body r ≡ item on .says p (itemIn I r) n → itemNext I r ≡ n
+  pub item-names : (i : Item) (p n : ℕ) → body (i .row) ≡ item on .says p i n → itemNext I (i .row) ≡ n
   unfolding bodyOf
-  item-names r p n e = ap (λ (b : Body). b .next) e
+  item-names i p n e = ap (λ (b : Body). b .next) e
 
   item-right : (d : Along) (r n : ℕ) → body r ≡ item on .says (d .prev) (itemIn I r) n → (get items I r .x ≡ d .x) → (1 ≤ get items I r .width)
       → (get items I r .width % alongStep (limitsOf h) ≡ 0) → ((d .after-free && eqb (get items I r .allocated) 0) ≡ false) → Right d r
@@ -97,12 +98,20 @@ module _ (h : Header) (I : List ℕ) (on : ℕ) where
   apart-from d r [] n = (tt, tt)
   apart-from d r (q ∷ l) n = (free-pair r q ∙ n .0, n .1)
 
-  pub items-hold : (end : ℕ) (d : Along) (l : List ℕ) → Chain (item on) body (d .prev) (map (itemIn I) l) → Filled (limitsOf h) (d .x) end (map (itemIn I) l)
+  from-items : (end : ℕ) (d : Along) (l : List ℕ) → Chain (item on) body (d .prev) (map (itemIn I) l) → Filled (limitsOf h) (d .x) end (map (itemIn I) l)
       → ApartFrom d l → Neighbours NotBothFree (map (itemIn I) l) → Holds Right over (λ d. d .x ≡ end) d l
   unfolding Filled itemIn along
-  items-hold end d [] c f a n = f
-  items-hold end d (r ∷ l) c f a n =
+  from-items end d [] c f a n = f
+  from-items end d (r ∷ l) c f a n =
       let (a′, n′) = apart-from d r l n in (
         item-right d r _ (c .0) (f .0) (f .1) (f .2) a,
-        items-hold end (over d r) l (c .1) (f .3) a′ n′,
+        from-items end (over d r) l (c .1) (f .3) a′ n′,
       )
+
+  pub items-hold : (end x : ℕ) (l : List ℕ) → Chain (item on) body noRow (map (itemIn I) l) → Filled (limitsOf h) x end (map (itemIn I) l) → Neighbours NotBothFree (map (itemIn I) l)
+      → Holds Right over (λ d. d .x ≡ end) (record { prev = noRow; x = x; after-free = false }) l
+  items-hold end x l c f n = from-items end (record { prev = noRow; x = x; after-free = false }) l c f (at-left l) n
+    where
+      at-left : (l : List ℕ) → ApartFrom (record { prev = noRow; x = x; after-free = false }) l
+      at-left [] = tt
+      at-left (r ∷ l) = refl

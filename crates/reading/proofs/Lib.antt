@@ -8,3 +8,4 @@ pub mod Shelves
 pub mod Freed
 pub mod Serving
 pub mod FromRules
+pub mod ToRules

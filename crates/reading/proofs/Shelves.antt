@@ -17,11 +17,11 @@ use Rattle.chains.specs.Lists.{_∈_, _iff_, Each, Neighbours}
 use Rattle.chains.specs.Chain.{firstOf, Chain}
 use Rattle.chains.specs.Walk.{Ends, Holds}
 use Rattle.rules.specs.Limits.{columns}
-use Rattle.rules.specs.Atlas.{isEmpty}
+use Rattle.rules.specs.Atlas.{Shelf, isEmpty}
 use Rattle.rules.specs.Release.{joins}
 use Rattle.rules.specs.Lies.{flag, shelf}
 use Rattle.rules.specs.Keeps.{Stacked, NotBothEmpty}
-use Rattle.rules.specs.Audit.{limitsOf, shelfNext, itemNext, shelvesMet, itemsMet, freeMet, itemIn, shelfIn, Down, oneFree, ShelfRight, down, AllColumns}
+use Rattle.rules.specs.Audit.{limitsOf, shelfNext, itemNext, shelvesMet, itemsMet, freeMet, itemIn, shelfIn, Down, oneFree, ShelfRight, down, atTop, AllColumns}
 use Rattle.reading.proofs.Lists.{first-map}
 use Rattle.reading.proofs.Flags.{flag-one}
 use Rattle.reading.proofs.Follow.{Back, holds-view, chain-map}
@@ -140,8 +140,8 @@ module _ (h : Header) (S I : List ℕ) where
   ApartFrom d [] = Unit {0}
   ApartFrom d (r ∷ l) = (d .under-empty && eqb (row r .«is_empty») 1) ≡ false
 
-  pub shelf-names : (r p n : ℕ) → row r ≡ shelf .says p (shelfIn h S I r) n → shelfNext S r ≡ n
-  shelf-names r p n e = ap (λ (s : ShelfRow). s .next .0) e
+  pub shelf-names : (s : Shelf) (p n : ℕ) → row (s .row) ≡ shelf .says p s n → shelfNext S (s .row) ≡ n
+  shelf-names s p n e = ap (λ (q : ShelfRow). q .next .0) e
 
   said-empty : (r p n : ℕ) → row r ≡ shelf .says p (shelfIn h S I r) n → EmptyRight r
   said-empty r p n e = ap (λ (s : ShelfRow). s .«is_empty») e
@@ -153,11 +153,11 @@ module _ (h : Header) (S I : List ℕ) where
   apart-from d r [] s x e c t n = (tt, tt)
   apart-from d r (q ∷ l) s x e c t n = (pair d r q s x (t .0) e (said-empty q r _ (c .0)) .1 (n .0), n .1)
 
-  pub shelves-hold : (d : Down) (l : List ℕ) → 1 ≤ h .«shelf_width» → ((r : ℕ) → r ∈ l → Heads r) → Chain shelf row (d .prev) (map (shelfIn h S I) l)
+  from-shelves : (d : Down) (l : List ℕ) → 1 ≤ h .«shelf_width» → ((r : ℕ) → r ∈ l → Heads r) → Chain shelf row (d .prev) (map (shelfIn h S I) l)
       → Stacked (limitsOf h) (d .column) (d .y) (map (shelfIn h S I) l) → ApartFrom d l → Neighbours NotBothEmpty (map (shelfIn h S I) l) → Holds Right over (AllColumns h) d l
   unfolding Stacked shelfIn down limitsOf
-  shelves-hold d [] s k c t a n = t
-  shelves-hold d (r ∷ l) s k c t a n =
+  from-shelves d [] s k c t a n = t
+  from-shelves d (r ∷ l) s k c t a n =
       let e : EmptyRight r = said-empty r (d .prev) _ (c .0) in
       let t′ : Stacked (limitsOf h) (over d r .column) (over d r .y) (map (shelfIn h S I) l) =
       unturn (eqb (d .y + row r .height) (h .height)) (λ c y. Stacked (limitsOf h) c y (map (shelfIn h S I) l)) _ _ (t .4) in
@@ -171,5 +171,13 @@ module _ (h : Header) (S I : List ℕ) where
           flag-right = e ∙ ap flag (sym (k r (List·Memᴰ·head refl) .empty));
           apart = a;
         },
-        shelves-hold (over d r) l s (λ q m. k q (List·Memᴰ·tail m)) (rw (over-prev d r) (c .1)) t′ a′ n′,
+        from-shelves (over d r) l s (λ q m. k q (List·Memᴰ·tail m)) (rw (over-prev d r) (c .1)) t′ a′ n′,
       )
+
+  pub shelves-hold : (l : List ℕ) → 1 ≤ h .«shelf_width» → ((r : ℕ) → r ∈ l → Heads r) → Chain shelf row noRow (map (shelfIn h S I) l)
+      → Stacked (limitsOf h) 0 0 (map (shelfIn h S I) l) → Neighbours NotBothEmpty (map (shelfIn h S I) l) → Holds Right over (AllColumns h) atTop l
+  shelves-hold l s k c t n = from-shelves atTop l s k c t (at-top l) n
+    where
+      at-top : (l : List ℕ) → ApartFrom atTop l
+      at-top [] = tt
+      at-top (r ∷ l) = refl
