@@ -11,9 +11,9 @@ pub flag-one : (b : Bool) → eqb (flag b) 1 ≡ b
 flag-one true = refl
 flag-one false = refl
 
-pub flag-zero : (b : Bool) → eqb (flag b) 0 ≡ not b
-flag-zero true = refl
-flag-zero false = refl
+pub flag-live : (b : Bool) → not (eqb (flag b) 0) ≡ b
+flag-live true = refl
+flag-live false = refl
 
 pub flag-most : (b : Bool) → flag b ≤ 1
 flag-most true = omega arith

@@ -24,6 +24,16 @@ holds-view right over good right′ over′ good′ v step end s (r ∷ l) f h =
 abbrev pub Back : (ℕ → ℕ → Type 0) → ℕ → List ℕ → Type 0
 Back says = Holds says (λ p r. r) (λ last. Unit {0})
 
+pub first-rows : {E C : Type 0} (k : Kind E C) (xs : List E) → firstOf (rowsOf k xs) ≡ firstRow (k .row) xs
+first-rows k [] = refl
+first-rows k (x ∷ xs) = refl
+
+-- what follows of each element from what its row says
+pub chain-each : {E C : Type 0} (k : Kind E C) (at : ℕ → C) (P : E → Type 0) → ((e : E) (p n : ℕ) → at (k .row e) ≡ k .says p e n → P e)
+    → (p : ℕ) (xs : List E) → Chain k at p xs → Each P xs
+chain-each k at P f p [] c = tt
+chain-each k at P f p (x ∷ xs) c = (f x p (firstRow (k .row) xs) (c .0), chain-each k at P f (k .row x) xs (c .1))
+
 module _ {E C : Type 0} (k : Kind E C) (at : ℕ → C) (next : ℕ → ℕ) (used : ℕ) where
   -- ---- from the rows to the elements
 
@@ -37,20 +47,12 @@ module _ {E C : Type 0} (k : Kind E C) (at : ℕ → C) (next : ℕ → ℕ) (us
 
   -- ---- from the elements to the rows
 
-  pub first-rows : (xs : List E) → firstOf (rowsOf k xs) ≡ firstRow (k .row) xs
-  first-rows [] = refl
-  first-rows (x ∷ xs) = refl
-
-  pub chain-each : (p : ℕ) (xs : List E) → Chain k at p xs → Each (λ e. (p : ℕ) × (n : ℕ) × (at (k .row e) ≡ k .says p e n)) xs
-  chain-each p [] c = tt
-  chain-each p (x ∷ xs) c = ((p, firstRow (k .row) xs, c .0), chain-each (k .row x) xs (c .1))
-
   module _ (names : (e : E) (p n : ℕ) → at (k .row e) ≡ k .says p e n → next (k .row e) ≡ n) where
     pub chain-ends : (p : ℕ) (xs : List E) → ((r : ℕ) → r ∈ rowsOf k xs → r < used) → Chain k at p xs → Ends next used (rowsOf k xs)
     chain-ends p [] b c = tt
     chain-ends p (x ∷ xs) b c = (
       b (k .row x) (List·Memᴰ·head refl),
-      names x p (firstRow (k .row) xs) (c .0) ∙ sym (first-rows xs),
+      names x p (firstRow (k .row) xs) (c .0) ∙ sym (first-rows k xs),
       chain-ends (k .row x) xs (λ r m. b r (List·Memᴰ·tail m)) (c .1),
     )
 
@@ -59,4 +61,4 @@ module _ {E C : Type 0} (k : Kind E C) (at : ℕ → C) (next : ℕ → ℕ) (us
         → rowsFrom next used (firstRow (k .row) xs) ≡ rowsOf k xs
     chain-met few p xs b c =
         let ends : Ends next used (rowsOf k xs) = chain-ends p xs b c in
-        ap (rowsFrom next used) (sym (first-rows xs)) ∙ ends-rows next used few used (rowsOf k xs) (ends-length next used few (rowsOf k xs) ends) ends
+        ap (rowsFrom next used) (sym (first-rows k xs)) ∙ ends-rows next used few used (rowsOf k xs) (ends-length next used few (rowsOf k xs) ends) ends

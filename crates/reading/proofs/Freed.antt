@@ -32,7 +32,7 @@ module _ (S : List ℕ) where
   freed-shelf-chain used p [] e z = tt
   freed-shelf-chain used p (r ∷ l) e z = (z .0 ∙ ap (λ (n : ℕ). freedShelfRow (record { 0 = n })) (e .1), freed-shelf-chain used r l (e .2) (z .1))
 
-  freed-shelf-next : (r n : ℕ) → get shelves S r ≡ freedShelfRow (record { 0 = n }) → get shelves S r .next .0 ≡ n
+  pub freed-shelf-next : (r n : ℕ) → get shelves S r ≡ freedShelfRow (record { 0 = n }) → get shelves S r .next .0 ≡ n
   unfolding freedShelfRow withShelfNext
   freed-shelf-next r n e = ap (λ (s : ShelfRow). s .next .0) e
 

@@ -9,3 +9,4 @@ pub mod Freed
 pub mod Serving
 pub mod FromRules
 pub mod ToRules
+pub mod Unique

@@ -18,6 +18,10 @@ pub each-from : (P : ℕ → Type 0) (l : List ℕ) → ((r : ℕ) → r ∈ l �
 each-from P [] f = tt
 each-from P (x ∷ l) f = (f x (List·Memᴰ·head refl), each-from P l (λ r m. f r (List·Memᴰ·tail m)))
 
+pub each-both : {E : Type 0} (P Q R : E → Type 0) → ((e : E) → P e → Q e → R e) → (xs : List E) → Each P xs → Each Q xs → Each R xs
+each-both P Q R f [] p q = tt
+each-both P Q R f (x ∷ xs) p q = (f x (p .0) (q .0), each-both P Q R f xs (p .1) (q .1))
+
 -- what each row of a walk is
 pub holds-each : {σ : Type 0} (right : σ → ℕ → Type 0) (over : σ → ℕ → σ) (good : σ → Type 0) (P : ℕ → Type 0) → ((s : σ) (r : ℕ) → right s r → P r)
     → (s : σ) (l : List ℕ) → Holds right over good s l → (r : ℕ) → r ∈ l → P r

@@ -56,8 +56,7 @@ module _ (h : Header) (S I : List ℕ) (l : Lies h S I (atlasIn h S I)) (k : Kee
 
     said : (p : ℕ) × (n : ℕ) × (get shelves S on ≡ shelf .says p (shelfIn h S I on) n)
     unfolding shelfIn
-    said =
-        at-shelf (λ s. (p : ℕ) × (n : ℕ) × (get shelves S (s .row) ≡ shelf .says p s n)) (chain-each shelf (get shelves S) (shelfNext S) 0 noRow (atlasIn h S I .shelves) (l .shelf-chain)) on m
+    said = at-shelf _ (chain-each shelf (get shelves S) (λ s. (p : ℕ) × (n : ℕ) × (get shelves S (s .row) ≡ shelf .says p s n)) (λ s p n e. (p, n, e)) noRow (atlasIn h S I .shelves) (l .shelf-chain)) on m
 
     first-item : get shelves S on .«first_item» .0 ≡ firstOf (itemsMet h S I on)
     unfolding shelfIn itemIn
