@@ -1,10 +1,9 @@
 -- Flags as numbers and as truth values. Assumes nothing.
 use Prim.Native.Nat.{ℕ, zero, suc, _≤_}
-use mathlib.Core.Path.{_≡_, refl, sym}
+use mathlib.Core.Path.{_≡_, refl}
 use mathlib.Core.Bool.{Bool, true, false, not}
 use native.Mathlib.Omega.{arith}
 use lib.Dec.{eqb}
-use borrow.Author.Tests.{ne-eqb}
 use Rattle.rules.specs.Lies.{flag}
 
 pub flag-one : (b : Bool) → eqb (flag b) 1 ≡ b

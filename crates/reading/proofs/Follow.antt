@@ -34,6 +34,13 @@ pub chain-each : {E C : Type 0} (k : Kind E C) (at : ℕ → C) (P : E → Type 
 chain-each k at P f p [] c = tt
 chain-each k at P f p (x ∷ xs) c = (f x p (firstRow (k .row) xs) (c .0), chain-each k at P f (k .row x) xs (c .1))
 
+-- the row of an element says it, between some rows
+abbrev pub Says : {E C : Type 0} → Kind E C → (ℕ → C) → E → Type 0
+Says k at e = (p : ℕ) × (n : ℕ) × (at (k .row e) ≡ k .says p e n)
+
+pub chain-says : {E C : Type 0} (k : Kind E C) (at : ℕ → C) (p : ℕ) (xs : List E) → Chain k at p xs → Each (Says k at) xs
+chain-says k at p xs c = chain-each k at (Says k at) (λ e p n q. (p, n, q)) p xs c
+
 module _ {E C : Type 0} (k : Kind E C) (at : ℕ → C) (next : ℕ → ℕ) (used : ℕ) where
   -- ---- from the rows to the elements
 

@@ -1,25 +1,24 @@
 -- The free list of one shelf: rule 5 at the rows that are met, and the list as it lies in the table. Assumes nothing.
-use Prim.Native.Nat.{ℕ, _≤_, _<_}
-use mathlib.Core.Path.{_≡_, refl, sym, ap, _∙_}
+use Prim.Native.Nat.{ℕ, _<_}
+use mathlib.Core.Path.{_≡_, refl, ap}
 use mathlib.Core.Bool.{Bool, true, false, not}
-use mathlib.Core.List.{List, [], _∷_, map, map-id, List·Memᴰ·head, List·Memᴰ·not-nil, List·Memᴰ·eq-of-singleton}
+use mathlib.Core.List.{List, [], _∷_, map, List·Memᴰ·head, List·Memᴰ·not-nil, List·Memᴰ·eq-of-singleton}
 use mathlib.Core.Logic.{_≢_}
 use lib.Dec.{eqb}
 use borrow.Author.Tests.{eqb-true, eqb-false, ne-eqb, not-true, not-false}
-use Rattle.numbers.specs.Index.{noRow}
 use Rattle.numbers.specs.Pick.{pick}
 use Rattle.rows.specs.Row.{get}
 use Rattle.rows.specs.Item.{items}
 use Rattle.rows.specs.Views.{Links, linksOf}
 use Rattle.chains.specs.Lists.{_∈_, gather}
 use Rattle.chains.specs.Chain.{Chain}
-use Rattle.chains.specs.Walk.{Ends, Holds}
+use Rattle.chains.specs.Walk.{Ends}
 use Rattle.chains.proofs.Chains.{self}
 use Rattle.rules.specs.Atlas.{Item}
 use Rattle.rules.specs.Lies.{free, liveRows, freeRows}
 use Rattle.rules.specs.Audit.{freeNext, itemIn}
 use Rattle.reading.proofs.Lists.{gather-map, gathered, in-gather}
-use Rattle.reading.proofs.Follow.{Back, chain-map, chain-ends}
+use Rattle.reading.proofs.Follow.{Back, chain-ends}
 
 -- ---- the free items and the live ones, among the items that are met
 

@@ -1,12 +1,10 @@
 -- The freed chains and the occupied total: rules 6 and 7 at the rows that are met, and what is read from them. Assumes nothing.
-use Prim.Native.Nat.{ℕ, _+_, _*_, _<_}
+use Prim.Native.Nat.{ℕ, _*_, _<_}
 use mathlib.Core.Path.{_≡_, refl, sym, ap, _∙_}
 use mathlib.Core.Bool.{Bool, true, false, not}
 use mathlib.Core.List.{List, [], _∷_, map}
 use lib.Dec.{eqb}
 use Rattle.numbers.specs.Pick.{pick}
-use Rattle.numbers.specs.declared.index.ItemIndex.{ItemIndex}
-use Rattle.numbers.specs.declared.index.ShelfIndex.{ShelfIndex}
 use Rattle.rows.specs.Row.{get}
 use Rattle.rows.specs.Item.{items, withItemNext, withGeneration}
 use Rattle.rows.specs.Shelf.{shelves, withShelfNext}
@@ -15,13 +13,13 @@ use Rattle.rows.specs.declared.header.Header.{Header}
 use Rattle.rows.specs.declared.item.ItemRow.{ItemRow}
 use Rattle.rows.specs.declared.shelf.ShelfRow.{ShelfRow}
 use Rattle.chains.specs.Lists.{_∈_, Each}
-use Rattle.chains.specs.Chain.{Chain, firstOf}
+use Rattle.chains.specs.Chain.{Chain}
 use Rattle.chains.specs.Walk.{Ends}
 use Rattle.chains.proofs.Chains.{self}
-use Rattle.rules.specs.Atlas.{Freed, liveArea, occupied}
+use Rattle.rules.specs.Atlas.{liveArea, occupied}
 use Rattle.rules.specs.Lies.{freedShelf, freedItem}
 use Rattle.rules.specs.Audit.{shelfNext, itemNext, itemIn, shelfIn, freedIn, itemsMet, sumOver, areaMet}
-use Rattle.reading.proofs.Lists.{first-map, rows-map}
+use Rattle.reading.proofs.Lists.{first-map}
 use Rattle.reading.proofs.Follow.{chain-ends}
 
 -- ---- shelf rows

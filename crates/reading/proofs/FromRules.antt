@@ -1,25 +1,22 @@
 -- Where the seven rules hold, the atlas that is met in the tables lies there, and keeps what an atlas keeps. Assumes nothing.
 use Prim.Native.Nat.{ℕ, _+_, _≤_, _<_}
 use mathlib.Core.Path.{_≡_, refl, sym, ap, _∙_}
-use mathlib.Core.Logic.{_≢_}
-use mathlib.Core.List.{List, [], _∷_, map}
+use mathlib.Core.List.{List, map}
 use native.Mathlib.Omega.{arith}
 use Rattle.numbers.specs.Index.{noRow}
-use Rattle.rows.specs.Row.{rows, get}
+use Rattle.rows.specs.Row.{get}
 use Rattle.rows.specs.Item.{items}
 use Rattle.rows.specs.Shelf.{shelves}
 use Rattle.rows.specs.Views.{linksOf}
 use Rattle.rows.specs.declared.header.Header.{Header}
-use Rattle.chains.specs.Lists.{_∈_, _iff_, Distinct, Each, Neighbours, gather}
-use Rattle.chains.specs.Chain.{firstRow, firstOf, Chain}
+use Rattle.chains.specs.Lists.{_∈_, Each, Neighbours}
 use Rattle.chains.specs.Walk.{Ends}
 use Rattle.chains.proofs.Ends.{ends-below}
-use Rattle.rules.specs.Limits.{WithinLimits}
-use Rattle.rules.specs.Atlas.{Item, Shelf, Freed, isEmpty, occupied}
-use Rattle.rules.specs.Lies.{shelf, freedShelf, freedItem, item, free, noLinks, liveRows, freeRows, Holds, headerOf, Lies, roomIn}
-use Rattle.rules.specs.Keeps.{Stacked, NotBothEmpty, Filled, NotBothFree, shelfRows, itemRows, allItemRows, freedRows, FreeListed, AllListed, Shared, WithinRoom, Sound, Shaped, Keeps}
-use Rattle.rules.specs.Audit.{limitsOf, shelfNext, itemNext, freeNext, shelvesMet, itemsMet, freeMet, allItemsMet, freedShelvesMet, freedItemsMet, itemIn, shelfIn, freedIn, atlasIn, atTop, atLeft, oneFree, ItemRight, along, ItemsRight, FreeListRight, Rule1, Rule2, Rule3, Rule4, Rule5, Rule6, Rule7, Passes}
-use Rattle.reading.proofs.Lists.{each-at, each-from, each-map, holds-each, first-map, rows-map, gather-map, gathered, in-gather}
+use Rattle.rules.specs.Atlas.{Shelf, occupied}
+use Rattle.rules.specs.Lies.{shelf, noLinks, Holds, headerOf, Lies, roomIn}
+use Rattle.rules.specs.Keeps.{Filled, NotBothFree, shelfRows, allItemRows, freedRows, FreeListed, AllListed, Shared, Sound, Shaped, Keeps}
+use Rattle.rules.specs.Audit.{limitsOf, shelfNext, itemNext, shelvesMet, itemsMet, freeMet, allItemsMet, freedShelvesMet, freedItemsMet, shelfIn, freedIn, atlasIn, atTop, atLeft, oneFree, ItemRight, along, ItemsRight, FreeListRight, Rule2, Rule3, Rule5, Passes}
+use Rattle.reading.proofs.Lists.{each-at, each-from, each-map, holds-each, first-map, gathered, in-gather}
 use Rattle.reading.proofs.Once.{few-shelves, few-items}
 use Rattle.reading.proofs.Items.{items-chain, items-filled, items-apart}
 use Rattle.reading.proofs.FreeList.{free-in, in-free, live-in, free-chain}

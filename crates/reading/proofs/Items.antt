@@ -1,7 +1,7 @@
 -- The items of one shelf: rule 3 at the rows that are met, and the items read from those rows. Assumes nothing.
-use Prim.Native.Nat.{ℕ, _+_, _≤_, _<_, _%_}
+use Prim.Native.Nat.{ℕ, _≤_, _%_}
 use mathlib.Core.Path.{_≡_, refl, sym, ap, _∙_}
-use mathlib.Core.Bool.{Bool, true, false, not, Bool·not-not, _&&_}
+use mathlib.Core.Bool.{false, not, Bool·not-not, _&&_}
 use mathlib.Core.List.{List, [], _∷_, map}
 use native.Mathlib.Omega.{arith}
 use lib.Dec.{eqb}
@@ -10,17 +10,16 @@ use Rattle.rows.specs.Row.{get}
 use Rattle.rows.specs.Item.{items}
 use Rattle.rows.specs.Views.{Body, bodyOf}
 use Rattle.rows.specs.declared.header.Header.{Header}
-use Rattle.rows.specs.declared.item.ItemRow.{ItemRow}
-use Rattle.chains.specs.Lists.{_∈_, Each, Neighbours}
+use Rattle.chains.specs.Lists.{Neighbours}
 use Rattle.chains.specs.Chain.{Chain}
 use Rattle.chains.specs.Walk.{Ends, Holds}
 use Rattle.rules.specs.Limits.{alongStep}
 use Rattle.rules.specs.Atlas.{Item}
-use Rattle.rules.specs.Lies.{flag, item}
+use Rattle.rules.specs.Lies.{item}
 use Rattle.rules.specs.Keeps.{Filled, NotBothFree}
 use Rattle.rules.specs.Audit.{limitsOf, itemNext, itemIn, Along, ItemRight, along}
 use Rattle.reading.proofs.Flags.{flag-read, flag-most}
-use Rattle.reading.proofs.Follow.{Back, holds-view, chain-map}
+use Rattle.reading.proofs.Follow.{holds-view, chain-map}
 
 module _ (h : Header) (I : List ℕ) (on : ℕ) where
   abbrev Right : Along → ℕ → Type 0

@@ -10,3 +10,5 @@ pub mod Serving
 pub mod FromRules
 pub mod ToRules
 pub mod Unique
+pub mod Determined
+pub mod Reading

@@ -1,8 +1,8 @@
 -- Lists of rows: what holds of each, what holds along a walk, and the rows that are gathered from them. Assumes nothing.
 use Prim.Native.Nat.{ℕ}
-use mathlib.Core.Path.{_≡_, refl, sym, ap, _∙_}
+use mathlib.Core.Path.{_≡_, refl, sym, _∙_}
 use mathlib.Core.Logic.{⊎-elim}
-use mathlib.Core.List.{List, [], _∷_, _++_, map, List·Memᴰ·head, List·Memᴰ·tail, List·Memᴰ·not-nil, List·Memᴰ·cases-cons, List·Memᴰ·append-cases, Memᴰ·cast, Memᴰ·append-left, Memᴰ·append-right}
+use mathlib.Core.List.{List, [], _∷_, map, List·Memᴰ·head, List·Memᴰ·tail, List·Memᴰ·not-nil, List·Memᴰ·cases-cons, List·Memᴰ·append-cases, Memᴰ·cast, Memᴰ·append-left, Memᴰ·append-right}
 use Rattle.chains.specs.Lists.{_∈_, Distinct, Each, gather}
 use Rattle.chains.specs.Chain.{firstRow, firstOf}
 use Rattle.chains.specs.Walk.{Holds}
@@ -31,13 +31,18 @@ holds-each right over good P f s (x ∷ l) h r m =
 
 -- ---- rows that are gathered
 
-pub gather-in : {E : Type 0} (f : E → List ℕ) (Q : E → Type 0) (l : List E) (x : ℕ) → Each Q l → x ∈ gather f l → (e : E) × Q e × (x ∈ f e)
-gather-in f Q [] x q m = absurd (List·Memᴰ·not-nil m)
-gather-in f Q (e ∷ l) x q m =
+pub gathered : (f : ℕ → List ℕ) (l : List ℕ) (x : ℕ) → x ∈ gather f l → (r : ℕ) × (r ∈ l) × (x ∈ f r)
+gathered f [] x m = absurd (List·Memᴰ·not-nil m)
+gathered f (r ∷ l) x m =
     ⊎-elim
-    (λ k. (e, q .0, k))
-    (gather-in f Q l x (q .1))
-    (List·Memᴰ·append-cases (f e) m)
+    (λ k. (r, List·Memᴰ·head refl, k))
+    (λ k. let (q, w, v) = gathered f l x k in (q, List·Memᴰ·tail w, v))
+    (List·Memᴰ·append-cases (f r) m)
+
+pub in-gather : (f : ℕ → List ℕ) (l : List ℕ) (r x : ℕ) → r ∈ l → x ∈ f r → x ∈ gather f l
+in-gather f [] r x m k = absurd (List·Memᴰ·not-nil m)
+in-gather f (q ∷ l) r x m k =
+    ⊎-elim (λ e. Memᴰ·append-left (gather f l) (rw e at k)) (λ w. Memᴰ·append-right (f q) (in-gather f l r x w k)) (List·Memᴰ·cases-cons m)
 
 -- lists of distinct rows that each name the row they are gathered from are distinct together
 pub gather-distinct : (f : ℕ → List ℕ) (of : ℕ → ℕ) (l : List ℕ) → Distinct l
@@ -48,9 +53,9 @@ gather-distinct f of (r ∷ l) d e n =
     (e r (List·Memᴰ·head refl))
     (gather-distinct f of l (d .1) (λ q m. e q (List·Memᴰ·tail m)) (λ q m. n q (List·Memᴰ·tail m)))
     (λ x k g.
-    let q = gather-in f (λ s. s ∈ l) l x (each-from (λ s. s ∈ l) l (λ s m. m)) g in
-    let same : r ≡ q .0 = sym (n r (List·Memᴰ·head refl) x k) ∙ n (q .0) (List·Memᴰ·tail (q .1)) x (q .2) in
-    d .0 (Memᴰ·cast same (q .1)))
+    let (q, w, v) = gathered f l x g in
+    let same : r ≡ q = sym (n r (List·Memᴰ·head refl) x k) ∙ n q (List·Memᴰ·tail w) x v in
+    d .0 (Memᴰ·cast same w))
 
 -- ---- what is read from each row of a list
 
@@ -80,11 +85,3 @@ each-unmap f P (r ∷ l) e = (e .0, each-unmap f P l (e .1))
 pub gather-map : {E : Type 0} (f : ℕ → E) (g : E → List ℕ) (k : ℕ → List ℕ) → ((r : ℕ) → g (f r) ≡ k r) → (l : List ℕ) → gather g (map f l) ≡ gather k l
 gather-map f g k h [] = refl
 gather-map f g k h (r ∷ l) = cc (h r, gather-map f g k h l)
-
-pub in-gather : (f : ℕ → List ℕ) (l : List ℕ) (r x : ℕ) → r ∈ l → x ∈ f r → x ∈ gather f l
-in-gather f [] r x m k = absurd (List·Memᴰ·not-nil m)
-in-gather f (q ∷ l) r x m k =
-    ⊎-elim (λ e. Memᴰ·append-left (gather f l) (rw e at k)) (λ w. Memᴰ·append-right (f q) (in-gather f l r x w k)) (List·Memᴰ·cases-cons m)
-
-pub gathered : (f : ℕ → List ℕ) (l : List ℕ) (x : ℕ) → x ∈ gather f l → (r : ℕ) × (r ∈ l) × (x ∈ f r)
-gathered f l x m = gather-in f (λ r. r ∈ l) l x (each-from (λ r. r ∈ l) l (λ r k. k)) m

@@ -1,10 +1,10 @@
 -- The shelf chain: rule 2 at the rows that are met, and the shelves read from those rows. Assumes nothing.
-use Prim.Native.Nat.{ℕ, _+_, _*_, _≤_, _<_}
+use Prim.Native.Nat.{ℕ, _+_, _*_, _≤_}
 use mathlib.Core.Path.{_≡_, refl, sym, ap, _∙_}
-use mathlib.Core.Bool.{Bool, true, false, not, Bool·not-not, and-true, and-false, _&&_}
+use mathlib.Core.Bool.{Bool, true, false, Bool·not-not, and-true, and-false, _&&_}
 use mathlib.Core.List.{List, [], _∷_, map, List·Memᴰ·head, List·Memᴰ·tail}
 use native.Mathlib.Omega.{arith}
-use lib.Dec.{ltb, eqb}
+use lib.Dec.{eqb}
 use borrow.Author.Tests.{lt-ltb, le-ltb, eq-eqb, ne-eqb}
 use Rattle.numbers.specs.Index.{noRow}
 use Rattle.numbers.specs.Pick.{pick, pick-ap, pick-same}
@@ -13,18 +13,17 @@ use Rattle.rows.specs.Item.{items}
 use Rattle.rows.specs.Shelf.{shelves}
 use Rattle.rows.specs.declared.header.Header.{Header}
 use Rattle.rows.specs.declared.shelf.ShelfRow.{ShelfRow}
-use Rattle.chains.specs.Lists.{_∈_, _iff_, Each, Neighbours}
+use Rattle.chains.specs.Lists.{_∈_, _iff_, Neighbours}
 use Rattle.chains.specs.Chain.{firstOf, Chain}
 use Rattle.chains.specs.Walk.{Ends, Holds}
-use Rattle.rules.specs.Limits.{columns}
 use Rattle.rules.specs.Atlas.{Shelf, isEmpty}
 use Rattle.rules.specs.Release.{joins}
 use Rattle.rules.specs.Lies.{flag, shelf}
 use Rattle.rules.specs.Keeps.{Stacked, NotBothEmpty}
-use Rattle.rules.specs.Audit.{limitsOf, shelfNext, itemNext, shelvesMet, itemsMet, freeMet, itemIn, shelfIn, Down, oneFree, ShelfRight, down, atTop, AllColumns}
+use Rattle.rules.specs.Audit.{limitsOf, shelfNext, itemNext, itemsMet, freeMet, itemIn, shelfIn, Down, oneFree, ShelfRight, down, atTop, AllColumns}
 use Rattle.reading.proofs.Lists.{first-map}
 use Rattle.reading.proofs.Flags.{flag-one}
-use Rattle.reading.proofs.Follow.{Back, holds-view, chain-map}
+use Rattle.reading.proofs.Follow.{holds-view, chain-map}
 
 -- "its first item is a used row, free, with no next", of rows that end: the items read from them are one free item
 pub one-free : (h : Header) (I l : List ℕ) → h .«used_items» ≤ noRow → Ends (itemNext I) (h .«used_items») l → oneFree h I (firstOf l) ≡ isEmpty (map (itemIn I) l)

@@ -1,5 +1,5 @@
 -- Where the atlas that is met in the tables lies there and keeps what an atlas keeps, the seven rules hold. Assumes nothing.
-use Prim.Native.Nat.{ℕ, _+_, _≤_, _<_}
+use Prim.Native.Nat.{ℕ, _+_, _<_}
 use mathlib.Core.Path.{_≡_, refl, sym, ap, _∙_}
 use mathlib.Core.List.{List, map}
 use native.Mathlib.Omega.{arith}
@@ -11,15 +11,15 @@ use Rattle.rows.specs.Views.{bodyOf, linksOf}
 use Rattle.rows.specs.declared.header.Header.{Header}
 use Rattle.rows.specs.declared.shelf.ShelfRow.{ShelfRow}
 use Rattle.chains.specs.Lists.{_∈_, Each, Neighbours}
-use Rattle.chains.specs.Chain.{firstOf, Chain}
+use Rattle.chains.specs.Chain.{firstOf}
 use Rattle.chains.specs.Walk.{Ends}
-use Rattle.rules.specs.Atlas.{Item, Shelf, Freed}
+use Rattle.rules.specs.Atlas.{Shelf}
 use Rattle.rules.specs.Lies.{item, shelf, freedItem, noLinks, Holds, headerOf, Lies, roomIn}
 use Rattle.rules.specs.Keeps.{Filled, NotBothFree, FreeListed, AllListed, Shared, Keeps}
-use Rattle.rules.specs.Audit.{limitsOf, shelfNext, itemNext, shelvesMet, itemsMet, freeMet, allItemsMet, freedShelvesMet, freedItemsMet, itemIn, shelfIn, freedIn, atlasIn, oneFree, ItemsRight, FreeListRight, Rule1, Rule2, Rule3, Rule4, Rule5, Rule6, Rule7, Passes}
+use Rattle.rules.specs.Audit.{limitsOf, shelfNext, itemNext, shelvesMet, itemsMet, freeMet, allItemsMet, freedShelvesMet, freedItemsMet, itemIn, shelfIn, freedIn, atlasIn, oneFree, ItemsRight, FreeListRight, Rule1, Rule2, Rule3, Rule5, Rule6, Rule7, Passes}
 use Rattle.reading.proofs.Lists.{each-at, each-from, each-unmap, first-map, gathered, in-gather}
-use Rattle.reading.proofs.Once.{few-shelves, few-items}
-use Rattle.reading.proofs.Follow.{chain-each, chain-ends}
+use Rattle.reading.proofs.Once.{few-items}
+use Rattle.reading.proofs.Follow.{Says, chain-says, chain-ends}
 use Rattle.reading.proofs.Items.{item-names, items-hold}
 use Rattle.reading.proofs.FreeList.{free-in, in-free, in-live, free-back, free-ends}
 use Rattle.reading.proofs.Shelves.{one-free, Heads, shelf-names, shelves-hold}
@@ -56,7 +56,7 @@ module _ (h : Header) (S I : List ℕ) (l : Lies h S I (atlasIn h S I)) (k : Kee
 
     said : (p : ℕ) × (n : ℕ) × (get shelves S on ≡ shelf .says p (shelfIn h S I on) n)
     unfolding shelfIn
-    said = at-shelf _ (chain-each shelf (get shelves S) (λ s. (p : ℕ) × (n : ℕ) × (get shelves S (s .row) ≡ shelf .says p s n)) (λ s p n e. (p, n, e)) noRow (atlasIn h S I .shelves) (l .shelf-chain)) on m
+    said = at-shelf (Says shelf (get shelves S)) (chain-says shelf (get shelves S) noRow (atlasIn h S I .shelves) (l .shelf-chain)) on m
 
     first-item : get shelves S on .«first_item» .0 ≡ firstOf (itemsMet h S I on)
     unfolding shelfIn itemIn
@@ -135,8 +135,8 @@ module _ (h : Header) (S I : List ℕ) (l : Lies h S I (atlasIn h S I)) (k : Kee
   freed-items-end : Ends (itemNext I) (h .«used_items») (freedItemsMet h I)
   unfolding atlasIn
   freed-items-end =
-      rw freed-serving at (chain-ends freedItem (get items I) (itemNext I) (h .«used_items») (λ f p n. freed-item-next I (f .row) n (f .generation)) noRow (map (freedIn I) (freedItemsMet h I))
-      (λ r w. item-rows .freed-exactly r .0 (rw freed-serving at w) .0) (l .freed-items))
+      rw freed-serving at (chain-ends freedItem (get items I) (itemNext I) (h .«used_items») (λ f p n. freed-item-next I (f .row) n (f .generation)) noRow
+      (map (freedIn I) (freedItemsMet h I)) (λ r w. item-rows .freed-exactly r .0 (rw freed-serving at w) .0) (l .freed-items))
 
   rule6 : Rule6 h S I
   unfolding headerOf atlasIn freedIn freedShelvesMet freedItemsMet

@@ -1,6 +1,6 @@
 -- An atlas that lies in a header and two tables is the one that is met there. Assumes nothing.
 use Prim.Native.Nat.{ℕ, _≤_, _<_}
-use mathlib.Core.Path.{_≡_, refl, sym, ap, subst, _∙_}
+use mathlib.Core.Path.{_≡_, sym, ap, _∙_}
 use mathlib.Core.Bool.{Bool, true, false, not}
 use mathlib.Core.List.{List, [], _∷_, map, List·Memᴰ·not-nil}
 use native.Mathlib.Omega.{arith}
@@ -16,15 +16,14 @@ use Rattle.rows.specs.declared.header.Header.{Header}
 use Rattle.rows.specs.declared.item.ItemRow.{ItemRow}
 use Rattle.rows.specs.declared.shelf.ShelfRow.{ShelfRow}
 use Rattle.chains.specs.Lists.{_∈_, Each}
-use Rattle.chains.specs.Chain.{firstRow, firstOf, Chain}
 use Rattle.chains.specs.Walk.{rowsFrom}
 use Rattle.chains.proofs.Chains.{self, within, each-frame}
 use Rattle.rules.specs.Atlas.{Item, Shelf, Freed, Atlas}
 use Rattle.rules.specs.Lies.{item, free, shelf, freedShelf, freedItem, freeRows, Holds, headerOf, Lies, roomIn}
-use Rattle.rules.specs.Keeps.{shelfRows, itemRows, allItemRows, freedRows, FreeListed, Keeps}
+use Rattle.rules.specs.Keeps.{itemRows, FreeListed, Keeps}
 use Rattle.rules.specs.Audit.{limitsOf, shelfNext, itemNext, freeNext, shelvesMet, itemsMet, freeMet, freedShelvesMet, freedItemsMet, itemIn, shelfIn, freedIn, atlasIn}
 use Rattle.reading.proofs.Lists.{each-both, read-all}
-use Rattle.reading.proofs.Follow.{chain-each, chain-met}
+use Rattle.reading.proofs.Follow.{Says, chain-each, chain-says, chain-met}
 use Rattle.reading.proofs.Flags.{flag-live}
 use Rattle.reading.proofs.Items.{item-names}
 use Rattle.reading.proofs.FreeList.{free-names}
@@ -69,14 +68,14 @@ module _ (S I : List ℕ) (a : Atlas) (l : Lies (headerOf a) S I a) (k : Keeps (
 
   -- what is said of a shelf, in its own row and in those of its items
   record Said (s : Shelf) : Type 0 where
-    pub row : (p : ℕ) × (n : ℕ) × (get shelves S (s .row) ≡ shelf .says p s n)
+    pub row : Says shelf (get shelves S) s
     pub holds : Holds I s
     pub listed : FreeListed s
 
   said : Each Said (a .shelves)
   said =
-      each-both (λ s. (p : ℕ) × (n : ℕ) × (get shelves S (s .row) ≡ shelf .says p s n)) (λ s. Holds I s × FreeListed s) Said (λ s r q. record { row = r; holds = q .0; listed = q .1 }) (a .shelves)
-      (chain-each shelf (get shelves S) _ (λ s p n e. (p, n, e)) noRow (a .shelves) (l .shelf-chain))
+      each-both (Says shelf (get shelves S)) (λ s. Holds I s × FreeListed s) Said (λ s r q. record { row = r; holds = q .0; listed = q .1 }) (a .shelves)
+      (chain-says shelf (get shelves S) noRow (a .shelves) (l .shelf-chain))
       (each-both (Holds I) FreeListed (λ s. Holds I s × FreeListed s) (λ s p q. (p, q)) (a .shelves) (l .shelf-items) (k .sound .free-listed))
 
   module _ (s : Shelf) (w : Said s) (b : (r : ℕ) → r ∈ itemRows (s .items) → r < a .rows .items .used) where
@@ -112,7 +111,8 @@ module _ (S I : List ℕ) (a : Atlas) (l : Lies (headerOf a) S I a) (k : Keeps (
   shelves-are =
       ap (λ (r : ℕ). map (shelfIn (headerOf a) S I) (rowsFrom (shelfNext S) (a .rows .shelves .used) r)) (sym (k .shaped .first))
       ∙ ap (map (shelfIn (headerOf a) S I))
-      (chain-met shelf (get shelves S) (shelfNext S) (a .rows .shelves .used) (shelf-names (headerOf a) S I) few-shelves noRow (a .shelves) (k .sound .shelf-rows .serving-used) (l .shelf-chain))
+      (chain-met shelf (get shelves S) (shelfNext S) (a .rows .shelves .used) (shelf-names (headerOf a) S I) few-shelves noRow (a .shelves)
+      (k .sound .shelf-rows .serving-used) (l .shelf-chain))
       ∙ read-all (λ (s : Shelf). s .row) (shelfIn (headerOf a) S I) (a .shelves)
       (each-frame (λ (s : Shelf). itemRows (s .items)) Said _ (a .shelves) (λ s m w. shelf-read s w (λ r q. k .sound .item-rows .serving-used r (m r q))) said)
 
