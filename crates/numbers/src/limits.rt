@@ -1,4 +1,16 @@
-// stub
+// Create's numbers, and the limits that every header keeps.
+ghost use mathlib.Core.Path.{_≡_};
+ghost use Rattle.numbers.specs.Limits.{sizesGood, optionsGood, shelfWidthGood, withinLimits};
+ghost use Rattle.numbers.specs.Limits.{shelfWidthOf, columnsOf, limitsFor, judgedLimits, createNumbers};
+use crate::axes::along;
+use crate::axes::deep;
+use crate::sides::flag_of;
+use crate::sides::natural_of;
+use crate::sides::one_to;
+
+const MAX_AREA: u32 = 2147483647;
+
+// The first six numbers of a header.
 pub struct Limits {
     pub width: u16,
     pub height: u16,
@@ -6,4 +18,139 @@ pub struct Limits {
     pub align_height: u16,
     pub vertical: u16,
     pub shelf_width: u16,
+}
+
+pub enum Made {
+    Good(Limits),
+    Refused(u16),
+}
+
+pub fn sizes_good(width: u32, height: u32) -> bool
+    ensures { λ r. ⌜ r ≡ sizesGood width height ⌝ }
+{
+    if !one_to(65535, width) {
+        return false;
+    }
+    if !one_to(65527, height) {
+        return false;
+    }
+    width * height <= MAX_AREA
+}
+
+pub fn options_good(align_width: u32, align_height: u32, vertical: u16) -> bool
+    ensures { λ r. ⌜ r ≡ optionsGood «align_width» «align_height» vertical ⌝ }
+{
+    if !one_to(65535, align_width) {
+        return false;
+    }
+    if !one_to(65535, align_height) {
+        return false;
+    }
+    vertical <= 1
+}
+
+// S; 0 where there is no column or no step.
+pub fn shelf_width_of(width: u32, columns: u32, step: u32) -> u32
+    ensures { λ r. ⌜ r ≡ shelfWidthOf width columns step ⌝ }
+{
+    if columns == 0 {
+        return 0;
+    }
+    if step == 0 {
+        return 0;
+    }
+    let share = width / columns;
+    share - share % step
+}
+
+// C; 0 where S is.
+pub fn columns(width: u16, shelf_width: u16) -> u16
+    ensures { λ r. ⌜ r ≡ columnsOf width «shelf_width» ⌝ }
+{
+    if shelf_width == 0 {
+        return 0;
+    }
+    width / shelf_width
+}
+
+// S lies from 1 to W and is a multiple of the step.
+pub fn shelf_width_good(width: u32, shelf_width: u32, step: u32) -> bool
+    ensures { λ r. ⌜ r ≡ shelfWidthGood width «shelf_width» step ⌝ }
+{
+    if !one_to(width, shelf_width) {
+        return false;
+    }
+    if step == 0 {
+        return false;
+    }
+    shelf_width % step == 0
+}
+
+pub fn within_limits(l: Limits) -> bool
+    ensures { λ r. ⌜ r ≡ withinLimits l ⌝ }
+{
+    if !sizes_good(l.width as u32, l.height as u32) {
+        return false;
+    }
+    if !options_good(l.align_width as u32, l.align_height as u32, l.vertical) {
+        return false;
+    }
+    let step = along(l.vertical, l.align_width as u32, l.align_height as u32);
+    shelf_width_good(l.width as u32, l.shelf_width as u32, step)
+}
+
+// Answer 1, then answer 2, on numbers that are no longer signed.
+pub fn judge_limits(
+    w: u32,
+    h: u32,
+    align_width: u32,
+    align_height: u32,
+    vertical: u16,
+    columns: u32,
+) -> Made
+    ensures { λ r. ⌜ r ≡ judgedLimits columns (limitsFor w h «align_width» «align_height» vertical columns) ⌝ }
+{
+    let width = along(vertical, w, h);
+    let height = deep(vertical, w, h);
+    if !sizes_good(width, height) {
+        return Made::Refused(1);
+    }
+    if !options_good(align_width, align_height, vertical) {
+        return Made::Refused(2);
+    }
+    if columns < 1 {
+        return Made::Refused(2);
+    }
+    let shelf_width = shelf_width_of(width, columns, along(vertical, align_width, align_height));
+    if shelf_width < 1 {
+        return Made::Refused(2);
+    }
+    Made::Good(Limits {
+        width: width as u16,
+        height: height as u16,
+        align_width: align_width as u16,
+        align_height: align_height as u16,
+        vertical: vertical,
+        shelf_width: shelf_width as u16,
+    })
+}
+
+pub fn create_numbers(
+    w: i32,
+    h: i32,
+    align_width: i32,
+    align_height: i32,
+    vertical: i32,
+    columns: i32,
+) -> Made
+    ensures { λ r. ⌜ r ≡ createNumbers w h «align_width» «align_height» vertical columns ⌝ }
+{
+    judge_limits(
+        natural_of(w),
+        natural_of(h),
+        natural_of(align_width),
+        natural_of(align_height),
+        flag_of(vertical),
+        natural_of(columns),
+    )
 }
