@@ -49,9 +49,10 @@ width-says I on p (i ∷ rest) c r m =
       | no n ↦ rw (ne-eqb r (i .row) n) (width-says I on (i .row) rest (c .1) r (⊎-elim (λ e. absurd (n e)) (λ k. k) (List·Memᴰ·cases-cons m)))
     ]
 
--- Of one shelf: its items lie in the table, and every row of its free list is an item's, and some row.
-pub record Ready (I : List ℕ) (s : Shelf) : Type 0 where
+-- Of one shelf: its items lie in the table, and its free list has no more rows than are used; each is an item's, and some row.
+pub record Ready (I : List ℕ) (used : ℕ) (s : Shelf) : Type 0 where
   pub holds : Holds I s
+  pub short : length (s .free) ≤ used
   pub listed : (r : ℕ) → r ∈ s .free → (r ∈ itemRows (s .items)) × (r ≢ noRow)
 
 -- the next row of the free list, as it stands in the table
@@ -66,18 +67,18 @@ choice true r o = refl
 choice false r o = refl
 
 -- a part of the free list that lies in the table, from its first row on
-wide-part : (I : List ℕ) (s : Shelf) → Ready I s → (width p : ℕ) (rows : List ℕ) → ((r : ℕ) → r ∈ rows → r ∈ s .free)
+wide-part : (I : List ℕ) (used : ℕ) (s : Shelf) → Ready I used s → (width p : ℕ) (rows : List ℕ) → ((r : ℕ) → r ∈ rows → r ∈ s .free)
     → Chain free (λ r. linksOf (get items I r)) p rows → (steps : ℕ) → length rows ≤ steps
     → table.firstWide I width (record { 0 = firstOf rows }) steps ≡ link (rule.firstWide width (s .items) rows)
 unfolding table.firstWide rule.firstWide
-wide-part I s ready width p [] within c zero h = refl
-wide-part I s ready width p [] within c (suc steps) h = refl
-wide-part I s ready width p (r ∷ rest) within c zero h = absurd (omega arith)
-wide-part I s ready width p (r ∷ rest) within c (suc steps) h =
+wide-part I used s ready width p [] within c zero h = refl
+wide-part I used s ready width p [] within c (suc steps) h = refl
+wide-part I used s ready width p (r ∷ rest) within c zero h = absurd (omega arith)
+wide-part I used s ready width p (r ∷ rest) within c (suc steps) h =
     let (mine, some-row) = ready .listed r (within r (List·Memᴰ·head refl)) in
     let wide : get items I r .width ≡ rule.widthOf r (s .items) = width-says I (s .row) noRow (s .items) (ready .holds .in-order) r mine in
     let later : table.firstWide I width (get items I r .«next_unallocated») steps ≡ link (rule.firstWide width (s .items) rest) =
-    next-part I r p rest (c .0) width steps ∙ wide-part I s ready width r rest (λ q m. within q (List·Memᴰ·tail m)) (c .1) steps (omega arith) in
+    next-part I r p rest (c .0) width steps ∙ wide-part I used s ready width r rest (λ q m. within q (List·Memᴰ·tail m)) (c .1) steps (omega arith) in
     rw (ne-eqb r noRow some-row, wide, later) (choice (leb width (rule.widthOf r (s .items))) r (rule.firstWide width (s .items) rest))
 
 -- ---- one shelf
@@ -141,12 +142,12 @@ held-found none bad held f = refl
 held-found (some r) true held f = refl
 held-found (some r) false held f = refl
 
-module _ (I : List ℕ) (used : ℕ) (a : Asked) (held : rule.Held) (f : Focus Shelf) (ready : Ready I (f .this)) (short : length (f .this .free) ≤ used) (p n : ℕ) where
+module _ (I : List ℕ) (used : ℕ) (a : Asked) (held : rule.Held) (f : Focus Shelf) (ready : Ready I used (f .this)) (p n : ℕ) where
   abbrev at : ShelfIndex
   at = record { 0 = f .this .row }
 
   wide : table.firstWide I (a .width) (record { 0 = firstOf (f .this .free) }) used ≡ link (rule.firstWide (a .width) (f .this .items) (f .this .free))
-  wide = wide-part I (f .this) ready (a .width) noRow (f .this .free) (λ r m. m) (ready .holds .free-order) used short
+  wide = wide-part I used (f .this) ready (a .width) noRow (f .this .free) (λ r m. m) (ready .holds .free-order) used (ready .short)
 
   tried-says : table.tried I used a (held-rows held) at (shelf .says p (f .this) n) ≡ held-rows (rule.tried a held f)
   unfolding table.tried rule.tried
@@ -165,9 +166,9 @@ module _ (I : List ℕ) (used : ℕ) (a : Asked) (held : rule.Held) (f : Focus S
 
 -- ---- along the chain
 
-module _ (S I : List ℕ) (used : ℕ) (a : Asked) (few : (s : Shelf) → Ready I s → length (s .free) ≤ used) where
+module _ (S I : List ℕ) (used : ℕ) (a : Asked) where
   -- from a place in the chain on
-  walk-says : (held : rule.Held) (before after : List Shelf) (p : ℕ) → Each (Ready I) after → ((r : ℕ) → r ∈ rowsOf shelf after → r ≢ noRow)
+  pub walk-says : (held : rule.Held) (before after : List Shelf) (p : ℕ) → Each (Ready I used) after → ((r : ℕ) → r ∈ rowsOf shelf after → r ≢ noRow)
       → Chain shelf (get shelves S) p after → (steps : ℕ) → length after ≤ steps
       → table.walk S I used a (held-rows held) (record { 0 = firstRow (shelf .row) after }) steps ≡ held-rows (rule.walk a held before after)
   unfolding table.walk rule.walk
@@ -180,7 +181,7 @@ module _ (S I : List ℕ) (used : ℕ) (a : Asked) (few : (s : Shelf) → Ready 
       rw (
         ne-eqb (s .row) noRow (some-rows (s .row) (List·Memᴰ·head refl)),
         c .0,
-        looked-says I used a held f (ready .0) (few s (ready .0)) p n,
+        looked-says I used a held f (ready .0) p n,
         exact-says a (rule.looked a held f),
         walk-says (rule.looked a held f) (s ∷ before) after (s .row) (ready .1) (λ r m. some-rows r (List·Memᴰ·tail m)) (c .1) steps (omega arith),
       )
