@@ -27,9 +27,10 @@ ready-each : (I : List ℕ) (used : ℕ) → used ≤ noRow → (ss : List Shelf
 ready-each I used most [] holds listed below = tt
 ready-each I used most (s ∷ rest) holds listed below =
     let mine : (r : ℕ) → r ∈ s .free → r ∈ itemRows (s .items) = λ r m. free-row (s .items) r (listed .0 .only r m) in
-    let under : (r : ℕ) → r ∈ s .free → r < used = λ r m. below r (Memᴰ·append-left (allItemRows rest) (mine r m)) in
-    ( record { holds = holds .0; short = distinct-below (s .free) used (listed .0 .once) under; listed = λ r m. (mine r m, λ e. omega (arith, under r m)) }
-    , ready-each I used most rest (holds .1) (listed .1) (λ r m. below r (Memᴰ·append-right (itemRows (s .items)) m)))
+    let under : (r : ℕ) → r ∈ s .free → r < used = λ r m. below r (Memᴰ·append-left (allItemRows rest) (mine r m)) in (
+      record { holds = holds .0; short = distinct-below (s .free) used (listed .0 .once) under; listed = λ r m. (mine r m, λ e. omega (arith, under r m)) },
+      ready-each I used most rest (holds .1) (listed .1) (λ r m. below r (Memᴰ·append-right (itemRows (s .items)) m)),
+    )
 
 -- a list of shelves has as many rows as shelves
 rows-length : (ss : List Shelf) → length (shelfRows ss) ≡ length ss
@@ -47,5 +48,5 @@ search-says h S I a lies keeps q =
     let enough : length (shelfRows (a .shelves)) ≤ a .rows .shelves .used = distinct-below (shelfRows (a .shelves)) (a .rows .shelves .used) (sound .shelf-rows .serving-once) under in
     rw (lies .header, sym (keeps .shaped .first))
     (walk-says S I (a .rows .items .used) q rule.nothing [] (a .shelves) noRow
-      (ready-each I (a .rows .items .used) most-items (a .shelves) (lies .shelf-items) (sound .free-listed) (sound .item-rows .serving-used))
-      (λ r m e. omega (arith, under r m)) (lies .shelf-chain) (a .rows .shelves .used) (omega (arith, rows-length (a .shelves))))
+    (ready-each I (a .rows .items .used) most-items (a .shelves) (lies .shelf-items) (sound .free-listed) (sound .item-rows .serving-used))
+    (λ r m e. omega (arith, under r m)) (lies .shelf-chain) (a .rows .shelves .used) (omega (arith, rows-length (a .shelves))))
