@@ -1,0 +1,4 @@
+pub mod Around
+pub mod Geometry
+pub mod Fresh
+pub mod Finding
