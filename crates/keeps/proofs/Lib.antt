@@ -2,3 +2,5 @@ pub mod Around
 pub mod Geometry
 pub mod Fresh
 pub mod Finding
+pub mod Granting
+pub mod GrantShaped
