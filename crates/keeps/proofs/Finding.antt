@@ -17,11 +17,18 @@ use Rattle.chains.proofs.Chains.{onto-apart, in-onto, parts-apart, within, each
 use Rattle.rules.specs.Atlas.{Item, Shelf, Atlas, Room}
 use Rattle.rules.specs.Search.{Held, nothing, good, bad, widthOf, firstWide, passedBy, isBadFit, holdsAny, tried, looked, isExact, walk, search}
 use Rattle.rules.specs.Grant.{findItem}
-use Rattle.rules.specs.Release.{Found, find}
+use Rattle.rules.specs.Release.{Found, find, names, findLive}
 use Rattle.rules.specs.Lies.{liveRows, freeRows}
 use Rattle.rules.specs.Keeps.{itemRows, allItemRows, FreeListed, Sound}
+use Rattle.keeps.proofs.Around.{pick-cases}
 
 -- ---- rows of live items and of free ones: none is both
+
+abbrev pub rowOf : Item → List ℕ
+rowOf i = i .row ∷ []
+
+abbrev pub freeOf : Item → List ℕ
+freeOf i = pick (i .live) [] (i .row ∷ [])
 
 pub a-live : (b : Bool) (x r : ℕ) → r ∈ pick b (x ∷ []) [] → r ∈ (x ∷ [])
 a-live true x r m = m
@@ -36,7 +43,7 @@ not-both true x r m k = List·Memᴰ·not-nil k
 not-both false x r m k = List·Memᴰ·not-nil m
 
 pub free-row : (items : List Item) (r : ℕ) → r ∈ freeRows items → r ∈ itemRows items
-free-row = within (λ i. pick (i .live) [] (i .row ∷ [])) (λ i. i .row ∷ []) (λ i r. a-free (i .live) (i .row) r)
+free-row = within freeOf rowOf (λ i r. a-free (i .live) (i .row) r)
 
 live-free : (items : List Item) → Distinct (itemRows items) → Apart (liveRows items) (freeRows items)
 live-free = parts-apart _ _ _ (λ i r. a-live (i .live) (i .row) r) (λ i r. a-free (i .live) (i .row) r) (λ i. not-both (i .live) (i .row))
@@ -91,6 +98,19 @@ find-at r before (s ∷ ss) = go (findItem r [] (s .items)) (find-item r [] (s .
       → FoundAt r (back-onto before (s ∷ ss)) (s ∷ ss) (elim p [ none ↦ o | some i ↦ some (record { shelf = record { before = before; this = s; after = ss }; item = i }) ])
   go none f o g = later o f g
   go (some i) f o g = (refl, f .0, f .1)
+
+-- and a live one by its row and generation
+abbrev pub FoundLive : ℕ → ℕ → List Shelf → Option Found → Type 0
+FoundLive row generation all none = Unit {0}
+FoundLive row generation all (some w) = FoundAt row all all (some w) × (names row generation (w .item .this) ≡ true)
+
+pub find-live : (a : Atlas) (row generation : ℕ) → FoundLive row generation (a .shelves) (findLive a row generation)
+unfolding findLive
+find-live a row generation = go (find row [] (a .shelves)) (find-at row [] (a .shelves)) where
+  go : (o : Option Found) → FoundAt row (a .shelves) (a .shelves) o
+      → FoundLive row generation (a .shelves) (elim o [ none ↦ none | some w ↦ pick (names row generation (w .item .this)) (some w) none ])
+  go none f = tt
+  go (some w) f = pick-cases (FoundLive row generation (a .shelves)) (names row generation (w .item .this)) (some w) none (λ e. (f, e)) (λ e. tt)
 
 -- a shelf's rows, each once
 pub rows-once : (room : Room) (a : Atlas) → Sound room a → (bs : List Shelf) (s : Shelf) (ys : List Shelf) → a .shelves ≡ back-onto bs (s ∷ ys) → Distinct (itemRows (s .items))

@@ -7,7 +7,7 @@ use mathlib.Core.List.{List, [], _∷_}
 use native.Mathlib.Omega.{arith}
 use native.Mathlib.Nat.{dvd-sub, dvd-add, dvd-of-mod-eq-zero, mod-eq-zero-of-dvd}
 use lib.Dec.{eqb}
-use borrow.Author.Tests.{eq-eqb, ne-eqb}
+use borrow.Author.Tests.{ne-eqb, eqb-true}
 use Rattle.numbers.specs.Pick.{pick}
 use Rattle.numbers.specs.declared.limits.Limits.{Limits}
 use Rattle.chains.specs.Lists.{_∈_, Each, Neighbours, back-onto}
@@ -19,7 +19,7 @@ use Rattle.rules.specs.Grant.{granted, rest-of, upperPart, lowerPart}
 use Rattle.rules.specs.Release.{freeWith, deeper, joins}
 use Rattle.rules.specs.Lies.{shelf, freeRows}
 use Rattle.rules.specs.Keeps.{Stacked, Filled, NotBothFree, NotBothEmpty, AllListed, Shaped}
-use Rattle.keeps.proofs.Around.{pick-map, and-false, each-map, each-both}
+use Rattle.keeps.proofs.Around.{pick-map, and-false, both-true, each-map, each-both}
 
 -- ---- items along a shelf
 
@@ -101,6 +101,14 @@ joins-before s t e = rw e (rw (and-false (isEmpty (s .items))))
 pub joins-after : (s t : Shelf) → isEmpty (s .items) ≡ false → joins s t ≡ false
 unfolding joins
 joins-after s t e = rw e
+
+-- two that join are empty, and in one column
+pub joins-true : (s t : Shelf) → joins s t ≡ true → (isEmpty (s .items) ≡ true) × (isEmpty (t .items) ≡ true) × (s .x ≡ t .x)
+unfolding joins
+joins-true s t e =
+    let (both, x) = both-true (isEmpty (s .items) && isEmpty (t .items)) (eqb (s .x) (t .x)) e in
+    let (es, et) = both-true (isEmpty (s .items)) (isEmpty (t .items)) both in
+    (es, et, eqb-true (s .x) (t .x) x)
 
 -- what joins a shelf joins another that is as empty and in the same column
 pub joins-alike : (s s′ t : Shelf) → isEmpty (s′ .items) ≡ isEmpty (s .items) → s′ .x ≡ s .x → joins s t ≡ false → joins s′ t ≡ false

@@ -23,7 +23,7 @@ use Rattle.rules.specs.Lies.{freeRows}
 use Rattle.rules.specs.Keeps.{itemRows, Stacked, Filled, NotBothFree, NotBothEmpty, AllListed, Sound, Shaped, Keeps}
 use Rattle.keeps.proofs.Around.{and-false, both-true, Behind, neighbours-split, neighbours-join, neighbours-after, behind-map, behind-any, ahead-map, ahead-any}
 use Rattle.keeps.proofs.Geometry.{filled-onto, filled-part, stacked-split, joins-before, joins-after, joins-alike, joined-alike, Right, Laid, laid, shaped, laid-at}
-use Rattle.keeps.proofs.Finding.{free-row}
+use Rattle.keeps.proofs.Finding.{rowOf, freeOf, free-row}
 use Rattle.keeps.proofs.Granting.{Spot, Chosen, Grants, granted-so, place-so, grant-so}
 
 -- ---- a row of a list replaced
@@ -66,12 +66,12 @@ module _ (l : Limits) (s : Shelf) (w : Focus Item) (right : Right l s) (spot : S
   -- the other free items are listed still
   others : (new : List ℕ) (r : ℕ) → (r ∈ freeRows (w .before)) ⊎ (r ∈ freeRows (w .after)) → r ∈ replaceRow (i .row) new (s .free)
   others new r o =
-      let (db, dy, apart) = onto-apart (λ (j : Item). j .row ∷ []) (w .before) (i ∷ w .after) (spot .once) in
+      let (db, dy, apart) = onto-apart rowOf (w .before) (i ∷ w .after) (spot .once) in
       let was : (r ∈ freeRows (w .before)) ⊎ (r ∈ freeRows (i ∷ w .after)) → r ∈ s .free =
-      λ q. right .all-listed r (rw (spot .stands) (in-onto (λ (j : Item). pick (j .live) [] (j .row ∷ [])) r (w .before) (i ∷ w .after) q)) in
+      λ q. right .all-listed r (rw (spot .stands) (in-onto freeOf r (w .before) (i ∷ w .after) q)) in
       ⊎-elim
       (λ k. stays-listed (i .row) new (s .free) r (λ e. apart r (free-row (w .before) r k) (List·Memᴰ·head e)) (was (inl k)))
-      (λ k. stays-listed (i .row) new (s .free) r (not-out (dy .0) (free-row (w .after) r k)) (was (inr (Memᴰ·append-right (pick (i .live) [] (i .row ∷ [])) k))))
+      (λ k. stays-listed (i .row) new (s .free) r (not-out (dy .0) (free-row (w .after) r k)) (was (inr (Memᴰ·append-right (freeOf i) k))))
       o
 
   apart-at : Behind NotBothFree (w .before) i × Neighbours NotBothFree (i ∷ w .after)
@@ -84,7 +84,7 @@ module _ (l : Limits) (s : Shelf) (w : Focus Item) (right : Right l s) (spot : S
     free-apart = neighbours-join NotBothFree (w .before) (granted i (i .width)) (w .after)
         (behind-any NotBothFree (w .before) i (granted i (i .width)) (λ b. and-false (not (b .live))) (apart-at .0))
         (ahead-any NotBothFree (granted i (i .width)) (w .after) (λ b. refl) (neighbours-after NotBothFree i (w .after) (apart-at .1)));
-    all-listed = λ r m. others [] r (onto-in (λ (j : Item). pick (j .live) [] (j .row ∷ [])) r (w .before) (granted i (i .width) ∷ w .after) m);
+    all-listed = λ r m. others [] r (onto-in freeOf r (w .before) (granted i (i .width) ∷ w .after) m);
   }
 
   pub part-right : (r : Rows) (width : ℕ) → 1 ≤ width → width < i .width → width % alongStep l ≡ 0 → Right l (grantPart r s w width)
@@ -98,7 +98,7 @@ module _ (l : Limits) (s : Shelf) (w : Focus Item) (right : Right l s) (spot : S
     all-listed = λ q m.
         ⊎-elim (λ k. others (newItemRow r ∷ []) q (inl k))
         (λ k. ⊎-elim (λ e. new-listed (i .row) (newItemRow r ∷ []) (s .free) q (spot .listed) (List·Memᴰ·head e)) (λ k′. others (newItemRow r ∷ []) q (inr k′)) (List·Memᴰ·cases-cons k))
-        (onto-in (λ (j : Item). pick (j .live) [] (j .row ∷ [])) q (w .before) (granted i width ∷ rest-of r i width ∷ w .after) m);
+        (onto-in freeOf q (w .before) (granted i width ∷ rest-of r i width ∷ w .after) m);
   }
 
 -- ---- in the atlas

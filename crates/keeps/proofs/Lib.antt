@@ -4,3 +4,5 @@ pub mod Fresh
 pub mod Finding
 pub mod Granting
 pub mod GrantShaped
+pub mod Merging
+pub mod ReleaseShaped
