@@ -20,6 +20,7 @@ use Rattle.rules.specs.Grant.{findItem}
 use Rattle.rules.specs.Release.{Found, find, names, findLive}
 use Rattle.rules.specs.Lies.{liveRows, freeRows}
 use Rattle.rules.specs.Keeps.{itemRows, allItemRows, FreeListed, Sound}
+use Rattle.keeps.specs.Places.{Fits}
 use Rattle.keeps.proofs.Around.{pick-cases}
 
 -- ---- rows of live items and of free ones: none is both
@@ -121,13 +122,6 @@ pub free-only : (room : Room) (a : Atlas) → Sound room a → (bs : List Shelf)
 free-only room a sound bs s ys e = each-split FreeListed bs (s ∷ ys) (rw e at (sound .free-listed)) .1 .0
 
 -- ---- the search
-
--- A place that the search may hold: a shelf deep enough, and a row of its free list whose item is wide enough.
-pub record Fits (asked : Asked) (shelves : List Shelf) (f : Focus Shelf) (row : ℕ) : Type 0 where
-  pub stands : shelves ≡ back-onto (f .before) (f .this ∷ f .after)
-  pub listed : row ∈ f .this .free
-  pub wide : asked .width ≤ widthOf row (f .this .items)
-  pub deep : asked .depth ≤ f .this .depth
 
 abbrev pub Holding : Asked → List Shelf → Held → Type 0
 Holding asked shelves nothing = Unit {0}

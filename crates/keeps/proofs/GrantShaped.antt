@@ -21,10 +21,11 @@ use Rattle.rules.specs.Grant.{newItemRow, splitsShelf, upperPart, lowerPart, sp
 use Rattle.rules.specs.Release.{joins}
 use Rattle.rules.specs.Lies.{freeRows}
 use Rattle.rules.specs.Keeps.{itemRows, Stacked, Filled, NotBothFree, NotBothEmpty, AllListed, Sound, Shaped, Keeps}
+use Rattle.keeps.specs.Places.{Spot, Chosen}
 use Rattle.keeps.proofs.Around.{and-false, both-true, Behind, neighbours-split, neighbours-join, neighbours-after, behind-map, behind-any, ahead-map, ahead-any}
 use Rattle.keeps.proofs.Geometry.{filled-onto, filled-part, stacked-split, joins-before, joins-after, joins-alike, joined-alike, Right, Laid, laid, shaped, laid-at}
 use Rattle.keeps.proofs.Finding.{rowOf, freeOf, free-row}
-use Rattle.keeps.proofs.Granting.{Spot, Chosen, Grants, granted-so, place-so, grant-so}
+use Rattle.keeps.proofs.Granting.{Grants, granted-so, place-so, grant-so}
 
 -- ---- a row of a list replaced
 
@@ -123,7 +124,7 @@ module _ (a : Atlas) (asked : Asked) (lim : WithinLimits (a .limits)) (fits : Wi
       → Grants (λ live a′. Shaped a′) (place a asked f w below r)
   unfolding splitsItem grantPart grantWhole granted
   placed f w below r spot right k behind ahead =
-      place-so a asked (λ live a′. Shaped a′) f w below r
+      place-so a asked (Grants (λ live a′. Shaped a′)) f w below r
       (λ e. in-shelf (a .limits) lim (f .before) (f .this) below (itemTaken r) _ _
       (two (w .before) (granted (w .this) (asked .width)) (rest-of r (w .this) (asked .width)) (w .after))
       (part-right (a .limits) (f .this) w right spot r (asked .width) (fits .some-width) (omega (arith, ltb-true (asked .width + 8) (w .this .width) e)) (fits .aligned))
@@ -173,4 +174,4 @@ module _ (a : Atlas) (asked : Asked) (lim : WithinLimits (a .limits)) (fits : Wi
         (ahead-map NotBothEmpty s (lowerPart (a .limits) (a .rows) d s) (f .after) (λ b q. joins-alike s (lowerPart (a .limits) (a .rows) d s) b (sym empty) refl q) (around f (c .stands) .1))
 
     pub grant-shape : Grants (λ live a′. Shaped a′) (grant room a asked)
-    grant-shape = grant-so a asked (λ live a′. Shaped a′) room (keeps .sound) split-shaped unsplit-shaped
+    grant-shape = grant-so room a (keeps .sound) asked (Grants (λ live a′. Shaped a′)) (λ e. tt) tt split-shaped unsplit-shaped

@@ -13,22 +13,38 @@ use Rattle.rules.specs.Atlas.{Item, Shelf, Rows, Atlas, Room}
 use Rattle.rules.specs.Search.{Held, nothing, good, bad, search, widthOf}
 use Rattle.rules.specs.Grant.{shelfTaken, itemTaken, splitsShelf, upperPart, lowerPart, splitsItem, granted, grantWhole, grantPart, tooFewRows, liveOf, Outcome, refused, grants, place, placeIn, findItem, placeAt, grant}
 use Rattle.rules.specs.Keeps.{itemRows, Sound}
+use Rattle.keeps.specs.Places.{Fits, Chosen}
 use Rattle.keeps.proofs.Around.{pick-cases}
-use Rattle.keeps.proofs.Finding.{FoundItem, find-item, is-free, rows-once, free-only, Fits, Holding, search-holding}
+use Rattle.keeps.proofs.Finding.{FoundItem, find-item, free-row, is-free, rows-once, free-only, Holding, search-holding}
 
--- A free item where it stands in a shelf.
-pub record Spot (s : Shelf) (w : Focus Item) : Type 0 where
-  pub stands : s .items ≡ back-onto (w .before) (w .this ∷ w .after)
-  pub once : Distinct (itemRows (back-onto (w .before) (w .this ∷ w .after)))
-  pub listed : w .this .row ∈ s .free
-  pub free : w .this .live ≡ false
+-- ---- what the search holds is there
 
--- The item that a request gets, or a part of it: in a shelf deep enough, and wide enough.
-pub record Chosen (a : Atlas) (asked : Asked) (f : Focus Shelf) (w : Focus Item) : Type 0 where
-  pub stands : a .shelves ≡ back-onto (f .before) (f .this ∷ f .after)
-  pub deep : asked .depth ≤ f .this .depth
-  pub spot : Spot (f .this) w
-  pub wide : asked .width ≤ w .this .width
+module _ (room : Room) (a : Atlas) (sound : Sound room a) (asked : Asked) (f : Focus Shelf) (row : ℕ) (fits : Fits asked (a .shelves) f row) where
+  chosen : (w : Focus Item) → FoundItem row (f .this .items) (f .this .items) (some w) → Chosen a asked f w
+  chosen w found =
+      let once : Distinct (itemRows (back-onto (w .before) (w .this ∷ w .after))) = rw (found .0) at (rows-once room a sound (f .before) (f .this) (f .after) (fits .stands)) in
+      let listed : w .this .row ∈ f .this .free = Memᴰ·cast (found .1) (fits .listed) in
+      record {
+        stands = fits .stands;
+        deep = fits .deep;
+        spot = record {
+          stands = found .0;
+          once = once;
+          listed = listed;
+          free = is-free (w .before) (w .this) (w .after) once (rw (found .0) at (free-only room a sound (f .before) (f .this) (f .after) (fits .stands) .only (w .this .row) listed));
+        };
+        wide = rw (found .2) at (fits .wide);
+      }
+
+  -- the row is never missing, and its item is free and wide enough
+  pub fits-found : (w : Focus Item) × (findItem row [] (f .this .items) ≡ some w) × Chosen a asked f w
+  fits-found = go (findItem row [] (f .this .items)) refl (find-item row [] (f .this .items)) where
+    go : (o : Option (Focus Item)) → findItem row [] (f .this .items) ≡ o → FoundItem row (f .this .items) (f .this .items) o
+        → (w : Focus Item) × (findItem row [] (f .this .items) ≡ some w) × Chosen a asked f w
+    go none e out = absurd (out (free-row (f .this .items) row (free-only room a sound (f .before) (f .this) (f .after) (fits .stands) .only row (fits .listed))))
+    go (some w) e found = (w, e, chosen w found)
+
+-- ---- a request's outcome
 
 -- what is to hold of the live record and the atlas of a grant; nothing is asked of a refusal
 abbrev pub Grants : (Live → Atlas → Type 0) → Outcome → Type 0
@@ -38,56 +54,38 @@ Grants P (grants live a) = P live a
 pub granted-so : (P : Live → Atlas → Type 0) (o : Outcome) (live : Live) (a : Atlas) → Grants P o → o ≡ grants live a → P live a
 granted-so P o live a h e = subst (Grants P) e h
 
-module _ (a : Atlas) (asked : Asked) (P : Live → Atlas → Type 0) where
-  pub place-so : (f : Focus Shelf) (w : Focus Item) (below : List Shelf) (r : Rows)
-      → (splitsItem asked (w .this) ≡ true → P (liveOf (a .limits) (f .this) (granted (w .this) (asked .width)))
-      (record { limits = a .limits; shelves = back-onto (f .before) (grantPart r (f .this) w (asked .width) ∷ below); rows = itemTaken r }))
-      → (splitsItem asked (w .this) ≡ false → P (liveOf (a .limits) (f .this) (granted (w .this) (w .this .width)))
-      (record { limits = a .limits; shelves = back-onto (f .before) (grantWhole (f .this) w ∷ below); rows = r }))
-      → Grants P (place a asked f w below r)
-  unfolding place
-  place-so f w below r part whole = pick-cases (Grants P) (splitsItem asked (w .this)) _ _ part whole
+pub place-so : (a : Atlas) (asked : Asked) (P : Outcome → Type 0) (f : Focus Shelf) (w : Focus Item) (below : List Shelf) (r : Rows)
+    → (splitsItem asked (w .this) ≡ true → P (grants (liveOf (a .limits) (f .this) (granted (w .this) (asked .width)))
+    (record { limits = a .limits; shelves = back-onto (f .before) (grantPart r (f .this) w (asked .width) ∷ below); rows = itemTaken r })))
+    → (splitsItem asked (w .this) ≡ false → P (grants (liveOf (a .limits) (f .this) (granted (w .this) (w .this .width)))
+    (record { limits = a .limits; shelves = back-onto (f .before) (grantWhole (f .this) w ∷ below); rows = r })))
+    → P (place a asked f w below r)
+unfolding place
+place-so a asked P f w below r part whole = pick-cases P (splitsItem asked (w .this)) _ _ part whole
 
-  module _ (room : Room) (sound : Sound room a)
-      (split : (f : Focus Shelf) (w : Focus Item) → Chosen a asked f w → splitsShelf asked (f .this) ≡ true
-      → Grants P (place a asked (record { before = f .before; this = upperPart (asked .depth) (f .this); after = f .after }) w
-      (lowerPart (a .limits) (a .rows) (asked .depth) (f .this) ∷ f .after) (itemTaken (shelfTaken (a .rows)))))
-      (unsplit : (f : Focus Shelf) (w : Focus Item) → Chosen a asked f w → splitsShelf asked (f .this) ≡ false → Grants P (place a asked f w (f .after) (a .rows))) where
-    in-so : (f : Focus Shelf) (w : Focus Item) → Chosen a asked f w → Grants P (placeIn room a asked f w)
-    unfolding placeIn
-    in-so f w c =
-        pick-cases (Grants P) (tooFewRows room (a .rows) (splitsShelf asked (f .this)) (splitsItem asked (w .this))) _ _ (λ e. tt)
-        (λ e. pick-cases (Grants P) (splitsShelf asked (f .this)) _ _ (split f w c) (unsplit f w c))
+-- what holds of a request's outcome, where it holds of each way
+module _ (room : Room) (a : Atlas) (sound : Sound room a) (asked : Asked) (P : Outcome → Type 0)
+    (no-place : search asked (a .shelves) ≡ nothing → P (refused 6))
+    (no-row : P (refused 7))
+    (split : (f : Focus Shelf) (w : Focus Item) → Chosen a asked f w → splitsShelf asked (f .this) ≡ true
+    → P (place a asked (record { before = f .before; this = upperPart (asked .depth) (f .this); after = f .after }) w
+    (lowerPart (a .limits) (a .rows) (asked .depth) (f .this) ∷ f .after) (itemTaken (shelfTaken (a .rows)))))
+    (unsplit : (f : Focus Shelf) (w : Focus Item) → Chosen a asked f w → splitsShelf asked (f .this) ≡ false → P (place a asked f w (f .after) (a .rows))) where
+  in-so : (f : Focus Shelf) (w : Focus Item) → Chosen a asked f w → P (placeIn room a asked f w)
+  unfolding placeIn
+  in-so f w c =
+      pick-cases P (tooFewRows room (a .rows) (splitsShelf asked (f .this)) (splitsItem asked (w .this))) _ _ (λ e. no-row)
+      (λ e. pick-cases P (splitsShelf asked (f .this)) _ _ (split f w c) (unsplit f w c))
 
-    chosen : (f : Focus Shelf) (row : ℕ) (w : Focus Item) → Fits asked (a .shelves) f row → FoundItem row (f .this .items) (f .this .items) (some w) → Chosen a asked f w
-    chosen f row w fits found =
-        let once : Distinct (itemRows (f .this .items)) = rows-once room a sound (f .before) (f .this) (f .after) (fits .stands) in
-        let once′ : Distinct (itemRows (back-onto (w .before) (w .this ∷ w .after))) = rw (found .0) at once in
-        let listed : w .this .row ∈ f .this .free = Memᴰ·cast (found .1) (fits .listed) in
-        record {
-          stands = fits .stands;
-          deep = fits .deep;
-          spot = record {
-            stands = found .0;
-            once = once′;
-            listed = listed;
-            free = is-free (w .before) (w .this) (w .after) once′ (rw (found .0) at (free-only room a sound (f .before) (f .this) (f .after) (fits .stands) .only (w .this .row) listed));
-          };
-          wide = rw (found .2) at (fits .wide);
-        }
+  at-so : (f : Focus Shelf) (row : ℕ) → Fits asked (a .shelves) f row → P (placeAt room a asked f row)
+  unfolding placeAt
+  at-so f row fits = let (w, e, c) = fits-found room a sound asked f row fits in rw (e, placeAt) (in-so f w c)
 
-    at-so : (f : Focus Shelf) (row : ℕ) → Fits asked (a .shelves) f row → Grants P (placeAt room a asked f row)
-    unfolding placeAt
-    at-so f row fits = go (findItem row [] (f .this .items)) (find-item row [] (f .this .items)) where
-      go : (o : Option (Focus Item)) → FoundItem row (f .this .items) (f .this .items) o → Grants P (elim o [ none ↦ refused 6 | some i ↦ placeIn room a asked f i ])
-      go none m = tt
-      go (some w) found = in-so f w (chosen f row w fits found)
-
-    pub grant-so : Grants P (grant room a asked)
-    unfolding grant
-    grant-so = go (search asked (a .shelves)) (search-holding asked (a .shelves)) where
-      go : (h : Held) → Holding asked (a .shelves) h
-          → Grants P (elim h [ nothing ↦ refused 6 | good f row ↦ placeAt room a asked f row | bad f row ↦ placeAt room a asked f row ])
-      go nothing fits = tt
-      go (good f row) fits = at-so f row fits
-      go (bad f row) fits = at-so f row fits
+  pub grant-so : P (grant room a asked)
+  unfolding grant
+  grant-so = go (search asked (a .shelves)) refl (search-holding asked (a .shelves)) where
+    go : (h : Held) → search asked (a .shelves) ≡ h → Holding asked (a .shelves) h
+        → P (elim h [ nothing ↦ refused 6 | good f row ↦ placeAt room a asked f row | bad f row ↦ placeAt room a asked f row ])
+    go nothing e fits = no-place e
+    go (good f row) e fits = at-so f row fits
+    go (bad f row) e fits = at-so f row fits

@@ -3,6 +3,8 @@ pub mod Geometry
 pub mod Fresh
 pub mod Finding
 pub mod Granting
+pub mod NoPlace
 pub mod GrantShaped
 pub mod Merging
 pub mod ReleaseShaped
+pub mod Kept
