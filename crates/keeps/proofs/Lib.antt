@@ -7,4 +7,5 @@ pub mod NoPlace
 pub mod GrantShaped
 pub mod Merging
 pub mod ReleaseShaped
+pub mod LivesKept
 pub mod Kept
