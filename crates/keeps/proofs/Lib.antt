@@ -7,5 +7,8 @@ pub mod NoPlace
 pub mod GrantShaped
 pub mod Merging
 pub mod ReleaseShaped
+pub mod Flat
 pub mod LivesKept
+pub mod Columns
+pub mod Rectangles
 pub mod Kept

@@ -3,7 +3,7 @@ use Prim.Native.Nat.{ℕ, _+_, _-_, _*_}
 use mathlib.Core.Path.{_≡_, refl, sym, ap, _∙_, subst}
 use mathlib.Core.Bool.{Bool, true, false, not}
 use mathlib.Core.Option.{Option, none, some}
-use mathlib.Core.List.{List, [], _∷_, _++_, append-assoc, append-nil}
+use mathlib.Core.List.{List, [], _∷_, _++_, append-assoc}
 use native.Mathlib.Omega.{arith}
 use borrow.Author.Tests.{not-true}
 use Rattle.numbers.specs.Pick.{pick, pick-yes, pick-no}
@@ -18,21 +18,13 @@ use Rattle.rules.specs.Keeps.{Sound}
 use Rattle.keeps.specs.Places.{Spot, Chosen}
 use Rattle.keeps.specs.Lives.{flat, liveIn, livesOn, lives, OneMore}
 use Rattle.keeps.proofs.Around.{both-true}
+use Rattle.keeps.proofs.Flat.{flat-onto, flat-same}
 use Rattle.keeps.proofs.Geometry.{joins-true}
 use Rattle.keeps.proofs.Finding.{FoundAt}
 use Rattle.keeps.proofs.Granting.{Grants, place-so, grant-so}
 use Rattle.keeps.proofs.Merging.{loose, itemsOf, stack, shelvesOf, next-cases, into-cases, below-cases, above-cases}
 
--- ---- lists one after the other, around a place
-
-pub flat-onto : {A B : Type 0} (f : A → List B) (bs ys : List A) → flat f (back-onto bs ys) ≡ flat f (back-onto bs []) ++ flat f ys
-flat-onto f [] ys = refl
-flat-onto f (b ∷ bs) ys =
-    flat-onto f bs (b ∷ ys) ∙ rw (flat-onto f bs (b ∷ []), append-assoc (flat f (back-onto bs [])) (f b ++ []) (flat f ys), append-nil (f b))
-
--- the same at the place, the same in all
-pub flat-same : {A B : Type 0} (f : A → List B) (bs us vs : List A) → flat f us ≡ flat f vs → flat f (back-onto bs us) ≡ flat f (back-onto bs vs)
-flat-same f bs us vs e = rw (flat-onto f bs us, flat-onto f bs vs, e)
+-- ---- one more
 
 -- one more at the place, one more in all
 within : (v : Live) (p q xs ys : List Live) → OneMore v xs ys → OneMore v (p ++ (xs ++ q)) (p ++ (ys ++ q))
