@@ -1,3 +1,4 @@
 pub mod Walking
 pub mod Searching
 pub mod RowsLeft
+pub mod Looking
