@@ -1,7 +1,7 @@
 -- Lists around a place in them: what each element and the next have, while one changes or two become one. Assumes nothing.
 use Prim.Native.Nat.{ℕ}
 use mathlib.Core.Path.{_≡_, refl}
-use mathlib.Core.Bool.{Bool, true, false, not, _&&_}
+use mathlib.Core.Bool.{Bool, true, false, _&&_}
 use mathlib.Core.List.{List, [], _∷_}
 use native.Mathlib.Omega.{arith}
 use Rattle.numbers.specs.Pick.{pick}
@@ -10,9 +10,6 @@ use Rattle.chains.specs.Lists.{Each, Neighbours, back-onto}
 -- ---- choices
 
 -- a choice that is known. (`rw e` with e : i .live ≡ b would take the record i apart.)
-pub known-yes : {X : Type 0} (P : X → Type 0) (b : Bool) (x y : X) → b ≡ true → P x → P (pick b x y)
-known-yes P b x y e p = rw e p
-
 pub known-no : {X : Type 0} (P : X → Type 0) (b : Bool) (x y : X) → b ≡ false → P y → P (pick b x y)
 known-no P b x y e p = rw e p
 
@@ -31,9 +28,7 @@ and-false false = refl
 
 pub both-true : (b c : Bool) → b && c ≡ true → (b ≡ true) × (c ≡ true)
 both-true true c e = (refl, e)
-both-true false c e = absurd (no-way e) where
-  no-way : false ≡ true → ⊥
-  no-way q = let z : _≡_ {A = ℕ} 0 1 = cc in omega arith
+both-true false c e = let z : _≡_ {A = ℕ} 0 1 = cc in absurd (omega arith)
 
 -- ---- each element
 

@@ -1,63 +1,25 @@
 -- What a look for a row finds, and what the search for a place finds. Assumes nothing.
-use Prim.Native.Nat.{ℕ, _<_, _≤_}
-use mathlib.Core.Path.{_≡_, refl, sym, ap, _∙_}
-use mathlib.Core.Logic.{_≢_, _⊎_, inl, inr, ⊎-elim}
-use mathlib.Core.Bool.{Bool, true, false, not, _&&_, _||_}
+use Prim.Native.Nat.{ℕ, _≤_}
+use mathlib.Core.Path.{_≡_, refl, sym}
+use mathlib.Core.Logic.{_≢_, ⊎-elim}
+use mathlib.Core.Bool.{Bool, true, false, _&&_, _||_}
 use mathlib.Core.Option.{Option, none, some}
-use mathlib.Core.List.{List, [], _∷_, _++_, List·Memᴰ·head, List·Memᴰ·tail, List·Memᴰ·not-nil, List·Memᴰ·cases-cons, List·Memᴰ·append-cases, Memᴰ·cast, Memᴰ·append-left, Memᴰ·append-right}
+use mathlib.Core.List.{List, [], _∷_, List·Memᴰ·head, List·Memᴰ·tail, List·Memᴰ·not-nil, List·Memᴰ·cases-cons, List·Memᴰ·append-cases}
 use native.Mathlib.Decide.{ℕ-discrete}
-use native.Mathlib.Omega.{arith}
 use lib.Dec.{leb, ltb, eqb}
 use borrow.Author.Tests.{eq-eqb, ne-eqb, leb-true, ltb-false}
 use Rattle.numbers.specs.Pick.{pick}
 use Rattle.numbers.specs.declared.request.Asked.{Asked}
-use Rattle.chains.specs.Lists.{_∈_, Distinct, Apart, Focus, back-onto, gather}
+use Rattle.chains.specs.Lists.{_∈_, Distinct, Focus, back-onto}
 use Rattle.chains.proofs.Lists.{distinct-left}
-use Rattle.chains.proofs.Chains.{onto-apart, in-onto, parts-apart, within, each-split}
+use Rattle.chains.proofs.Chains.{onto-apart, each-split}
 use Rattle.rules.specs.Atlas.{Item, Shelf, Atlas, Room}
 use Rattle.rules.specs.Search.{Held, nothing, good, bad, widthOf, firstWide, passedBy, isBadFit, holdsAny, tried, looked, isExact, walk, search}
 use Rattle.rules.specs.Grant.{findItem}
 use Rattle.rules.specs.Release.{Found, find, names, findLive}
-use Rattle.rules.specs.Lies.{liveRows, freeRows}
 use Rattle.rules.specs.Keeps.{itemRows, allItemRows, FreeListed, Sound}
 use Rattle.keeps.specs.Places.{Fits}
 use Rattle.keeps.proofs.Around.{pick-cases}
-
--- ---- rows of live items and of free ones: none is both
-
-abbrev pub rowOf : Item → List ℕ
-rowOf i = i .row ∷ []
-
-abbrev pub freeOf : Item → List ℕ
-freeOf i = pick (i .live) [] (i .row ∷ [])
-
-pub a-live : (b : Bool) (x r : ℕ) → r ∈ pick b (x ∷ []) [] → r ∈ (x ∷ [])
-a-live true x r m = m
-a-live false x r m = absurd (List·Memᴰ·not-nil m)
-
-pub a-free : (b : Bool) (x r : ℕ) → r ∈ pick b [] (x ∷ []) → r ∈ (x ∷ [])
-a-free true x r m = absurd (List·Memᴰ·not-nil m)
-a-free false x r m = m
-
-not-both : (b : Bool) (x : ℕ) → Apart (pick b (x ∷ []) []) (pick b [] (x ∷ []))
-not-both true x r m k = List·Memᴰ·not-nil k
-not-both false x r m k = List·Memᴰ·not-nil m
-
-pub free-row : (items : List Item) (r : ℕ) → r ∈ freeRows items → r ∈ itemRows items
-free-row = within freeOf rowOf (λ i r. a-free (i .live) (i .row) r)
-
-live-free : (items : List Item) → Distinct (itemRows items) → Apart (liveRows items) (freeRows items)
-live-free = parts-apart _ _ _ (λ i r. a-live (i .live) (i .row) r) (λ i r. a-free (i .live) (i .row) r) (λ i. not-both (i .live) (i .row))
-
--- an item whose row is a free item's is free
-pub is-free : (ib : List Item) (i : Item) (ia : List Item) → Distinct (itemRows (back-onto ib (i ∷ ia))) → i .row ∈ freeRows (back-onto ib (i ∷ ia)) → i .live ≡ false
-is-free ib i ia once m = go (i .live) refl where
-  there : i .live ≡ true → i .row ∈ liveRows (i ∷ ia)
-  there e = rw e (List·Memᴰ·head refl)
-
-  go : (b : Bool) → i .live ≡ b → i .live ≡ false
-  go false e = e
-  go true e = absurd (live-free (back-onto ib (i ∷ ia)) once (i .row) (in-onto (λ (j : Item). pick (j .live) (j .row ∷ []) []) (i .row) ib (i ∷ ia) (inr (there e))) m)
 
 -- ---- the item of a row in a shelf
 

@@ -1,25 +1,21 @@
 -- A fresh atlas keeps the rules. Assumes nothing.
-use Prim.Native.Nat.{ℕ, zero, suc, _<_, _≤_, _+_, _*_, _%_, _/_}
-use mathlib.Core.Path.{_≡_, refl, sym, ap, _∙_}
+use Prim.Native.Nat.{ℕ, zero, suc, _<_, _≤_, _+_, _*_}
+use mathlib.Core.Path.{_≡_, refl}
 use mathlib.Core.Logic.{⊎-elim}
-use mathlib.Core.Bool.{Bool, true, false}
 use mathlib.Core.List.{List, [], _∷_, List·Memᴰ·head, List·Memᴰ·tail, List·Memᴰ·not-nil, List·Memᴰ·cases-cons}
 use native.Mathlib.Decide.{ℕ-discrete}
 use native.Mathlib.Nat.{suc-mul, le-div-iff-mul-le}
 use native.Mathlib.Numerals.{add-one}
 use native.Mathlib.Omega.{arith}
-use lib.Dec.{eqb}
 use borrow.Author.Tests.{eq-eqb, ne-eqb}
-use Rattle.numbers.specs.Pick.{pick}
 use Rattle.numbers.specs.declared.limits.Limits.{Limits}
 use Rattle.chains.specs.Lists.{_∈_, Distinct, Each, Neighbours, gather}
 use Rattle.chains.specs.Chain.{firstRow}
-use Rattle.rules.specs.Limits.{columns, alongStep, WithinLimits}
-use Rattle.rules.specs.Atlas.{Item, Shelf, Atlas, Room, isEmpty, freshShelf, freshShelves, fresh}
+use Rattle.rules.specs.Limits.{columns, WithinLimits}
+use Rattle.rules.specs.Atlas.{Shelf, Room, isEmpty, freshShelf, freshShelves, fresh}
 use Rattle.rules.specs.Release.{joins}
-use Rattle.rules.specs.Lies.{freeRows}
 use Rattle.rules.specs.Keeps.{Stacked, Filled, NotBothEmpty, itemRows, FreeListed, Shared, Sound, Shaped}
-use Rattle.keeps.proofs.Geometry.{Right, Laid, shaped}
+use Rattle.keeps.proofs.Geometry.{Right, shaped}
 
 -- ---- its rows
 

@@ -1,8 +1,7 @@
 -- The rules of shelves in columns and of items along a shelf, at one place of each. Assumes nothing.
 use Prim.Native.Nat.{ℕ, _<_, _≤_, _+_, _-_, _*_, _%_}
-use mathlib.Core.Path.{_≡_, refl, sym, ap, _∙_, subst}
-use mathlib.Core.Logic.{_≢_}
-use mathlib.Core.Bool.{Bool, true, false, not, _&&_}
+use mathlib.Core.Path.{_≡_, ap, _∙_}
+use mathlib.Core.Bool.{Bool, true, false, _&&_}
 use mathlib.Core.List.{List, [], _∷_}
 use native.Mathlib.Omega.{arith}
 use native.Mathlib.Nat.{dvd-sub, dvd-add, dvd-of-mod-eq-zero, mod-eq-zero-of-dvd}
@@ -10,14 +9,14 @@ use lib.Dec.{eqb}
 use borrow.Author.Tests.{ne-eqb, eqb-true}
 use Rattle.numbers.specs.Pick.{pick}
 use Rattle.numbers.specs.declared.limits.Limits.{Limits}
-use Rattle.chains.specs.Lists.{_∈_, Each, Neighbours, back-onto}
+use Rattle.chains.specs.Lists.{Each, Neighbours, back-onto}
 use Rattle.chains.specs.Chain.{firstRow}
 use Rattle.chains.proofs.Chains.{each-split, each-join, first-onto}
 use Rattle.rules.specs.Limits.{alongStep, WithinLimits}
 use Rattle.rules.specs.Atlas.{Item, Shelf, Rows, Atlas, isEmpty}
 use Rattle.rules.specs.Grant.{granted, rest-of, upperPart, lowerPart}
 use Rattle.rules.specs.Release.{freeWith, deeper, joins}
-use Rattle.rules.specs.Lies.{shelf, freeRows}
+use Rattle.rules.specs.Lies.{shelf}
 use Rattle.rules.specs.Keeps.{Stacked, Filled, NotBothFree, NotBothEmpty, AllListed, Shaped}
 use Rattle.keeps.proofs.Around.{pick-map, and-false, both-true, each-map, each-both}
 

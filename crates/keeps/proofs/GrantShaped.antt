@@ -1,49 +1,27 @@
 -- A grant keeps the shape of an atlas: in a shelf, whole or in part, and where the shelf is split before. Assumes nothing.
-use Prim.Native.Nat.{ℕ, _<_, _≤_, _+_, _-_, _*_, _%_}
-use mathlib.Core.Path.{_≡_, refl, sym, ap, _∙_, subst}
-use mathlib.Core.Logic.{_≢_, _⊎_, inl, inr, ⊎-elim}
+use Prim.Native.Nat.{ℕ, _<_, _≤_, _+_, _%_}
+use mathlib.Core.Path.{_≡_, refl, sym, ap, subst}
+use mathlib.Core.Logic.{_⊎_, inl, inr, ⊎-elim}
 use mathlib.Core.Bool.{Bool, true, false, not, _&&_}
-use mathlib.Core.List.{List, [], _∷_, _++_, List·Memᴰ·head, List·Memᴰ·tail, List·Memᴰ·not-nil, List·Memᴰ·cases-cons, Memᴰ·append-left, Memᴰ·append-right}
-use native.Mathlib.Decide.{ℕ-discrete}
+use mathlib.Core.List.{List, [], _∷_, List·Memᴰ·head, List·Memᴰ·cases-cons, Memᴰ·append-right}
 use native.Mathlib.Omega.{arith}
-use lib.Dec.{ltb, eqb}
-use borrow.Author.Tests.{eq-eqb, ne-eqb, ltb-true, ltb-false}
-use Rattle.numbers.specs.Pick.{pick}
+use lib.Dec.{ltb}
+use borrow.Author.Tests.{ltb-true}
 use Rattle.numbers.specs.declared.limits.Limits.{Limits}
 use Rattle.numbers.specs.declared.request.Asked.{Asked}
-use Rattle.rows.specs.declared.live.Live.{Live}
-use Rattle.chains.specs.Lists.{_∈_, Distinct, Each, Neighbours, Focus, back-onto}
+use Rattle.chains.specs.Lists.{_∈_, Neighbours, Focus, back-onto}
 use Rattle.chains.proofs.Lists.{not-out}
 use Rattle.chains.proofs.Chains.{onto-apart, in-onto, onto-in, each-split}
 use Rattle.rules.specs.Limits.{alongStep, WithinLimits, WithinAtlas}
 use Rattle.rules.specs.Atlas.{Item, Shelf, Rows, Atlas, Room, isEmpty}
-use Rattle.rules.specs.Grant.{newItemRow, splitsShelf, upperPart, lowerPart, splitsItem, granted, rest-of, replaceRow, holding, grantWhole, grantPart, shelfTaken, itemTaken, place, grants, grant}
-use Rattle.rules.specs.Release.{joins}
+use Rattle.rules.specs.Grant.{newItemRow, splitsShelf, upperPart, lowerPart, splitsItem, granted, rest-of, replaceRow, holding, grantWhole, grantPart, shelfTaken, itemTaken, place, grant}
 use Rattle.rules.specs.Lies.{freeRows}
-use Rattle.rules.specs.Keeps.{itemRows, Stacked, Filled, NotBothFree, NotBothEmpty, AllListed, Sound, Shaped, Keeps}
+use Rattle.rules.specs.Keeps.{Stacked, Filled, NotBothFree, NotBothEmpty, Shaped, Keeps}
 use Rattle.keeps.specs.Places.{Spot, Chosen}
 use Rattle.keeps.proofs.Around.{and-false, both-true, Behind, neighbours-split, neighbours-join, neighbours-after, behind-map, behind-any, ahead-map, ahead-any}
 use Rattle.keeps.proofs.Geometry.{filled-onto, filled-part, stacked-split, joins-before, joins-after, joins-alike, joined-alike, Right, Laid, laid, shaped, laid-at}
-use Rattle.keeps.proofs.Finding.{rowOf, freeOf, free-row}
-use Rattle.keeps.proofs.Granting.{Grants, granted-so, place-so, grant-so}
-
--- ---- a row of a list replaced
-
-pub stays-listed : (row : ℕ) (new l : List ℕ) (r : ℕ) → r ≢ row → r ∈ l → r ∈ replaceRow row new l
-unfolding replaceRow
-stays-listed row new [] r n m = absurd (List·Memᴰ·not-nil m)
-stays-listed row new (x ∷ l) r n m = go (ℕ-discrete row x) (stays-listed row new l r n) where
-  go : Dec (row ≡ x) → (r ∈ l → r ∈ replaceRow row new l) → r ∈ pick (eqb row x) (new ++ l) (x ∷ replaceRow row new l)
-  go (yes e) ih = rw (eq-eqb row x e) (Memᴰ·append-right new (⊎-elim (λ q. absurd (n (q ∙ sym e))) (λ k. k) (List·Memᴰ·cases-cons m)))
-  go (no d) ih = rw (ne-eqb row x d) (⊎-elim (λ q. List·Memᴰ·head q) (λ k. List·Memᴰ·tail (ih k)) (List·Memᴰ·cases-cons m))
-
-new-listed : (row : ℕ) (new l : List ℕ) (r : ℕ) → row ∈ l → r ∈ new → r ∈ replaceRow row new l
-unfolding replaceRow
-new-listed row new [] r m k = absurd (List·Memᴰ·not-nil m)
-new-listed row new (x ∷ l) r m k = go (ℕ-discrete row x) (new-listed row new l r) where
-  go : Dec (row ≡ x) → (row ∈ l → r ∈ new → r ∈ replaceRow row new l) → r ∈ pick (eqb row x) (new ++ l) (x ∷ replaceRow row new l)
-  go (yes e) ih = rw (eq-eqb row x e) (Memᴰ·append-left l k)
-  go (no d) ih = rw (ne-eqb row x d) (⊎-elim (λ q. absurd (d q)) (λ q. List·Memᴰ·tail (ih q k)) (List·Memᴰ·cases-cons m))
+use Rattle.keeps.proofs.Listed.{rowOf, freeOf, free-row, stays-listed, new-listed}
+use Rattle.keeps.proofs.Granting.{Grants, place-so, grant-so}
 
 -- ---- a shelf with an item granted is in use
 

@@ -1,21 +1,20 @@
 -- The ways in which a request is granted: what holds of the place, and which of the two splits are made. Assumes nothing.
-use Prim.Native.Nat.{ℕ, _<_, _≤_}
-use mathlib.Core.Path.{_≡_, refl, sym, ap, _∙_, subst}
-use mathlib.Core.Bool.{Bool, true, false}
+use Prim.Native.Nat.{ℕ}
+use mathlib.Core.Path.{_≡_, refl, subst}
+use mathlib.Core.Bool.{true, false}
 use mathlib.Core.Option.{Option, none, some}
 use mathlib.Core.List.{List, [], _∷_, Memᴰ·cast}
-use native.Mathlib.Omega.{arith}
-use Rattle.numbers.specs.Pick.{pick}
 use Rattle.numbers.specs.declared.request.Asked.{Asked}
 use Rattle.rows.specs.declared.live.Live.{Live}
 use Rattle.chains.specs.Lists.{_∈_, Distinct, Focus, back-onto}
 use Rattle.rules.specs.Atlas.{Item, Shelf, Rows, Atlas, Room}
-use Rattle.rules.specs.Search.{Held, nothing, good, bad, search, widthOf}
+use Rattle.rules.specs.Search.{Held, nothing, good, bad, search}
 use Rattle.rules.specs.Grant.{shelfTaken, itemTaken, splitsShelf, upperPart, lowerPart, splitsItem, granted, grantWhole, grantPart, tooFewRows, liveOf, Outcome, refused, grants, place, placeIn, findItem, placeAt, grant}
 use Rattle.rules.specs.Keeps.{itemRows, Sound}
 use Rattle.keeps.specs.Places.{Fits, Chosen}
 use Rattle.keeps.proofs.Around.{pick-cases}
-use Rattle.keeps.proofs.Finding.{FoundItem, find-item, free-row, is-free, rows-once, free-only, Holding, search-holding}
+use Rattle.keeps.proofs.Listed.{free-row, is-free}
+use Rattle.keeps.proofs.Finding.{FoundItem, find-item, rows-once, free-only, Holding, search-holding}
 
 -- ---- what the search holds is there
 

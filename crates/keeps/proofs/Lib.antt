@@ -1,6 +1,7 @@
 pub mod Around
 pub mod Geometry
 pub mod Fresh
+pub mod Listed
 pub mod Finding
 pub mod Granting
 pub mod NoPlace

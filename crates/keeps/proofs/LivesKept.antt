@@ -1,12 +1,12 @@
 -- A grant adds one live rectangle and a release takes one away; the others stay where they are. Assumes nothing.
-use Prim.Native.Nat.{ℕ, _+_, _-_, _*_}
-use mathlib.Core.Path.{_≡_, refl, sym, ap, _∙_, subst}
-use mathlib.Core.Bool.{Bool, true, false, not}
-use mathlib.Core.Option.{Option, none, some}
+use Prim.Native.Nat.{ℕ, _+_}
+use mathlib.Core.Path.{_≡_, refl, ap, _∙_}
+use mathlib.Core.Bool.{true, false}
+use mathlib.Core.Option.{some}
 use mathlib.Core.List.{List, [], _∷_, _++_, append-assoc}
 use native.Mathlib.Omega.{arith}
 use borrow.Author.Tests.{not-true}
-use Rattle.numbers.specs.Pick.{pick, pick-yes, pick-no}
+use Rattle.numbers.specs.Pick.{pick-yes, pick-no}
 use Rattle.numbers.specs.declared.limits.Limits.{Limits}
 use Rattle.numbers.specs.declared.request.Asked.{Asked}
 use Rattle.rows.specs.declared.live.Live.{Live}
@@ -15,7 +15,7 @@ use Rattle.rules.specs.Atlas.{Item, Shelf, Rows, Atlas, Room, isEmpty}
 use Rattle.rules.specs.Grant.{splitsShelf, upperPart, lowerPart, granted, rest-of, holding, grantWhole, grantPart, shelfTaken, itemTaken, liveOf, place, grant}
 use Rattle.rules.specs.Release.{Loose, Stack, Found, freeWith, deeper, joins, mergeNext, mergeInto, mergeBelow, mergeAbove, releaseFound}
 use Rattle.rules.specs.Keeps.{Sound}
-use Rattle.keeps.specs.Places.{Spot, Chosen}
+use Rattle.keeps.specs.Places.{Spot}
 use Rattle.keeps.specs.Lives.{flat, liveIn, livesOn, lives, OneMore}
 use Rattle.keeps.proofs.Around.{both-true}
 use Rattle.keeps.proofs.Flat.{flat-onto, flat-same}

@@ -1,10 +1,9 @@
 -- The four merges of a release by cases: no neighbour there, one that stays, one that is merged. Assumes nothing.
 use Prim.Native.Nat.{ℕ, _+_}
 use mathlib.Core.Path.{_≡_}
-use mathlib.Core.Bool.{Bool, true, false}
+use mathlib.Core.Bool.{true, false}
 use mathlib.Core.List.{List, [], _∷_}
-use Rattle.numbers.specs.Pick.{pick}
-use Rattle.chains.specs.Lists.{Focus, back-onto}
+use Rattle.chains.specs.Lists.{back-onto}
 use Rattle.rules.specs.Atlas.{Item, Shelf, Rows}
 use Rattle.rules.specs.Grant.{replaceRow}
 use Rattle.rules.specs.Release.{Loose, Stack, freeItemRow, freeShelf, freeWith, deeper, joins, mergeNext, mergeInto, mergeBelow, mergeAbove}

@@ -1,27 +1,27 @@
 -- The search ends with nothing exactly where no shelf has a place. Assumes nothing.
 use Prim.Native.Nat.{ℕ, _<_, _≤_}
 use mathlib.Core.Path.{_≡_, refl, sym, ap, _∙_, subst}
-use mathlib.Core.Logic.{_≢_, ⊎-elim}
-use mathlib.Core.Bool.{Bool, true, false, not, _&&_, _||_}
+use mathlib.Core.Logic.{⊎-elim}
+use mathlib.Core.Bool.{Bool, true, false, _&&_, _||_}
 use mathlib.Core.Option.{Option, none, some}
-use mathlib.Core.List.{List, [], _∷_, List·Memᴰ·head, List·Memᴰ·tail, List·Memᴰ·not-nil, List·Memᴰ·cases-cons, List·Memᴰ·append-cases, List·Memᴰ·eq-of-singleton, Memᴰ·cast}
+use mathlib.Core.List.{List, [], _∷_, List·Memᴰ·head, List·Memᴰ·tail, List·Memᴰ·not-nil, List·Memᴰ·cases-cons, List·Memᴰ·append-cases, List·Memᴰ·eq-of-singleton}
 use native.Mathlib.Decide.{decLt}
 use native.Mathlib.Omega.{arith}
-use lib.Dec.{leb, ltb, eqb}
-use borrow.Author.Tests.{eq-eqb, ne-eqb, leb-true, leb-false, lt-leb, lt-ltb, le-ltb}
+use lib.Dec.{leb, eqb}
+use borrow.Author.Tests.{eq-eqb, ne-eqb, leb-false, lt-leb, lt-ltb, le-ltb}
 use Rattle.numbers.specs.Pick.{pick}
 use Rattle.numbers.specs.declared.request.Asked.{Asked}
-use Rattle.chains.specs.Lists.{_∈_, _iff_, Distinct, Each, Focus, back-onto}
+use Rattle.chains.specs.Lists.{_∈_, _iff_, Distinct, Each, Focus}
 use Rattle.chains.proofs.Lists.{distinct-left, distinct-right, not-out}
 use Rattle.chains.proofs.Chains.{each-frame}
 use Rattle.rules.specs.Atlas.{Item, Shelf, Atlas, Room}
 use Rattle.rules.specs.Search.{Held, nothing, good, bad, widthOf, firstWide, passedBy, isBadFit, holdsAny, tried, looked, isExact, walk, search}
-use Rattle.rules.specs.Grant.{shelfTaken, itemTaken, upperPart, lowerPart, Outcome, refused, grants, place, grant}
+use Rattle.rules.specs.Grant.{shelfTaken, itemTaken, upperPart, lowerPart, Outcome, refused, grants, grant}
 use Rattle.rules.specs.Lies.{freeRows}
-use Rattle.rules.specs.Keeps.{itemRows, allItemRows, FreeListed, AllListed, Sound, Keeps}
+use Rattle.rules.specs.Keeps.{itemRows, allItemRows, FreeListed, AllListed, Keeps}
 use Rattle.keeps.specs.Places.{NoPlace}
 use Rattle.keeps.proofs.Around.{known-no, pick-cases, and-false, each-map, each-both}
-use Rattle.keeps.proofs.Finding.{rowOf, freeOf, a-free, free-row}
+use Rattle.keeps.proofs.Listed.{rowOf, freeOf, free-row}
 use Rattle.keeps.proofs.Granting.{place-so, grant-so}
 
 -- ---- in a shelf

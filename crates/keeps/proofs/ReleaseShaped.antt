@@ -1,28 +1,24 @@
 -- A release keeps the shape of an atlas, through its four merges. Assumes nothing.
-use Prim.Native.Nat.{ℕ, _<_, _≤_, _+_, _*_}
+use Prim.Native.Nat.{ℕ, _+_}
 use mathlib.Core.Path.{_≡_, refl, sym, ap, _∙_, subst}
-use mathlib.Core.Logic.{_≢_, _⊎_, inl, inr, ⊎-elim}
+use mathlib.Core.Logic.{inl, inr, ⊎-elim}
 use mathlib.Core.Bool.{Bool, true, false, not, _&&_}
-use mathlib.Core.Option.{Option, none, some}
-use mathlib.Core.List.{List, [], _∷_, _++_, List·Memᴰ·head, List·Memᴰ·tail, List·Memᴰ·not-nil, List·Memᴰ·cases-cons, List·Memᴰ·append-cases, List·Memᴰ·eq-of-singleton, Memᴰ·append-left, Memᴰ·append-right}
-use native.Mathlib.Omega.{arith}
-use lib.Dec.{eqb}
-use borrow.Author.Tests.{eqb-true}
-use Rattle.numbers.specs.Pick.{pick}
+use mathlib.Core.Option.{some}
+use mathlib.Core.List.{List, [], _∷_, List·Memᴰ·head, List·Memᴰ·tail, List·Memᴰ·cases-cons, List·Memᴰ·append-cases, List·Memᴰ·eq-of-singleton, Memᴰ·append-left, Memᴰ·append-right}
 use Rattle.numbers.specs.declared.limits.Limits.{Limits}
-use Rattle.chains.specs.Lists.{_∈_, Distinct, Each, Neighbours, Focus, back-onto}
+use Rattle.chains.specs.Lists.{_∈_, Distinct, Neighbours, Focus, back-onto}
 use Rattle.chains.proofs.Lists.{not-out}
 use Rattle.chains.proofs.Chains.{onto-apart, in-onto, onto-in, each-split}
 use Rattle.rules.specs.Limits.{WithinLimits}
-use Rattle.rules.specs.Atlas.{Item, Shelf, Rows, Atlas, Room, isEmpty}
+use Rattle.rules.specs.Atlas.{Item, Shelf, Rows, Atlas, Room}
 use Rattle.rules.specs.Grant.{replaceRow, holding}
 use Rattle.rules.specs.Release.{Loose, Stack, Found, freeItemRow, freeWith, deeper, joins, mergeNext, mergeInto, mergeBelow, mergeAbove, releaseFound}
 use Rattle.rules.specs.Lies.{freeRows}
-use Rattle.rules.specs.Keeps.{itemRows, Stacked, Filled, NotBothFree, NotBothEmpty, Sound, Shaped, Keeps}
-use Rattle.keeps.proofs.Around.{known-no, and-false, both-true, Half, half, whole, whole-joined, ahead-map, ahead-any, neighbours-join}
+use Rattle.rules.specs.Keeps.{itemRows, Stacked, Filled, NotBothFree, NotBothEmpty, Shaped, Keeps}
+use Rattle.keeps.proofs.Around.{known-no, Half, half, whole, whole-joined, ahead-map}
 use Rattle.keeps.proofs.Geometry.{filled-onto, filled-join, stacked-join, joins-true, joins-alike, joined-alike, Right, Laid, laid, shaped, laid-at}
-use Rattle.keeps.proofs.Finding.{rowOf, freeOf, a-free, free-row, FoundAt, rows-once}
-use Rattle.keeps.proofs.GrantShaped.{stays-listed}
+use Rattle.keeps.proofs.Listed.{rowOf, freeOf, a-free, free-row, stays-listed}
+use Rattle.keeps.proofs.Finding.{FoundAt, rows-once}
 use Rattle.keeps.proofs.Merging.{loose, itemsOf, stack, shelvesOf, next-cases, into-cases, below-cases, above-cases}
 
 -- ---- items

@@ -1,7 +1,6 @@
 -- The live rectangles of an atlas, in x and y: which there are, that they lie inside, that no two share a pixel, and their area. Assumes nothing.
 use Prim.Native.Nat.{ℕ, _+_, _-_, _*_, _≤_, _<_}
 use mathlib.Core.Path.{_≡_}
-use mathlib.Core.Bool.{Bool, true, false}
 use mathlib.Core.List.{List, [], _∷_, _++_}
 use Rattle.numbers.specs.Pick.{pick}
 use Rattle.numbers.specs.declared.limits.Limits.{Limits}
