@@ -1,0 +1,1 @@
+// An empty shelf split in two, and two shelves merged.
