@@ -49,7 +49,7 @@ pub holds-frame : (I I′ : List ℕ) (s : Shelf) → FreeListed s → ((r : ℕ
 holds-frame I I′ s l h o = record {
   in-order = chain-frame (item (s .row)) (λ r. bodyOf (get items I r)) (λ r. bodyOf (get items I′ r)) noRow (s .items) (λ r m. ap bodyOf (h r m)) (o .in-order);
   free-order = chain-frame free (λ r. linksOf (get items I r)) (λ r. linksOf (get items I′ r)) noRow (s .free)
-    (λ r m. ap linksOf (h r (free-row (s .items) r (l .only r (rw self at m))))) (o .free-order);
+      (λ r m. ap linksOf (h r (free-row (s .items) r (l .only r (rw self at m))))) (o .free-order);
   live-unlinked = λ r m. ap linksOf (h r (live-row (s .items) r m)) ∙ o .live-unlinked r m;
 }
 
