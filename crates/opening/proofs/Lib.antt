@@ -1,3 +1,5 @@
 pub mod Views
 pub mod Frames
 pub mod Taking
+pub mod Open
+pub mod Marks

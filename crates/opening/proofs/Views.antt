@@ -1,7 +1,7 @@
 -- What a row says after changes. `simp reads` works out any run of changes of a table, and `simp sights` of the two views of an item row,
 -- given that the rows differ that must. Assumes nothing.
 use Prim.Native.Nat.{ℕ}
-use mathlib.Core.Path.{_≡_, refl}
+use mathlib.Core.Path.{_≡_, refl, ap}
 use mathlib.Core.List.{List}
 use Rattle.numbers.specs.Index.{noRow}
 use Rattle.numbers.specs.declared.index.ItemIndex.{ItemIndex}
@@ -155,3 +155,40 @@ pub ruleset sights = (
   links-span,
   links-free,
 )
+
+-- ---- the links of a row as indices, by what its views say
+
+module _ (v : ItemRow) where
+  module _ {l : Links} (e : linksOf v ≡ l) where
+    pub seen-prevFree : v .«prev_unallocated» ≡ record { 0 = l .prev }
+    unfolding linksOf
+    seen-prevFree = ap (λ (k : Links). record { 0 = k .prev }) e
+
+    pub seen-nextFree : v .«next_unallocated» ≡ record { 0 = l .next }
+    unfolding linksOf
+    seen-nextFree = ap (λ (k : Links). record { 0 = k .next }) e
+
+  module _ {b : Body} (e : bodyOf v ≡ b) where
+    pub seen-prev : v .prev ≡ record { 0 = b .prev }
+    unfolding bodyOf
+    seen-prev = ap (λ (k : Body). record { 0 = k .prev }) e
+
+    pub seen-next : v .next ≡ record { 0 = b .next }
+    unfolding bodyOf
+    seen-next = ap (λ (k : Body). record { 0 = k .next }) e
+
+    pub seen-shelf : v .shelf ≡ record { 0 = b .shelf }
+    unfolding bodyOf
+    seen-shelf = ap (λ (k : Body). record { 0 = k .shelf }) e
+
+    pub seen-width : v .width ≡ b .width
+    unfolding bodyOf
+    seen-width = ap (λ (k : Body). k .width) e
+
+    pub seen-allocated : v .allocated ≡ b .allocated
+    unfolding bodyOf
+    seen-allocated = ap (λ (k : Body). k .allocated) e
+
+    pub seen-generation : v .generation ≡ b .generation
+    unfolding bodyOf
+    seen-generation = ap (λ (k : Body). k .generation) e
