@@ -3,3 +3,4 @@ pub mod Frames
 pub mod Taking
 pub mod Open
 pub mod Marks
+pub mod Split
