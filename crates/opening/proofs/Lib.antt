@@ -4,3 +4,4 @@ pub mod Taking
 pub mod Open
 pub mod Marks
 pub mod Split
+pub mod Join
