@@ -5,3 +5,4 @@ pub mod Open
 pub mod Marks
 pub mod Split
 pub mod Join
+pub mod Close
