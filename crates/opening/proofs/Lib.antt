@@ -6,3 +6,4 @@ pub mod Marks
 pub mod Split
 pub mod Join
 pub mod Close
+pub mod Moves
