@@ -1,6 +1,6 @@
 -- A shelf opened, and closed again after its items changed: the shelf's row and the header are written, and tables and atlas agree.
 -- Assumes nothing.
-use Prim.Native.Nat.{ℕ, _≤_}
+use Prim.Native.Nat.{ℕ}
 use mathlib.Core.Path.{_≡_, refl, ap}
 use mathlib.Core.Logic.{_≢_, inl, inr, ⊎-elim}
 use mathlib.Core.Bool.{true}
@@ -28,6 +28,7 @@ use Rattle.steps.specs.ShelfEdits.{withFree}
 use Rattle.opening.proofs.Views.{reads}
 use Rattle.opening.proofs.Frames.{each-holds}
 use Rattle.opening.proofs.Taking.{freedRow}
+use Rattle.opening.proofs.Standing.{used-items, used-shelves}
 use Rattle.opening.proofs.Open.{Open}
 
 -- ---- the rows that serve, in two orders
@@ -78,14 +79,6 @@ module _ (bs : List Shelf) (s : Shelf) (ys : List Shelf) where
       (λ r m k. ⊎-elim (λ q. apart r q (Memᴰ·append-left (allItemRows ys) m)) (λ q. distinct-apart (itemRows (s .items)) (allItemRows ys) dy′ r m q) (List·Memᴰ·append-cases (allItemRows bs) k))
 
 -- ---- opened and closed
-
-pub used-items : (S I : List ℕ) (a : Atlas) → Sound (roomIn S I) a → a .rows .items .used ≤ rows items I
-unfolding roomIn
-used-items S I a sound = sound .in-room .items
-
-pub used-shelves : (S I : List ℕ) (a : Atlas) → Sound (roomIn S I) a → a .rows .shelves .used ≤ rows shelves S
-unfolding roomIn
-used-shelves S I a sound = sound .in-room .shelves
 
 -- the atlas with other items and another free list on the shelf s, and another pool of item rows
 abbrev pub reshelved : Atlas → List Shelf → Shelf → List Shelf → Pool Freed → Atlas

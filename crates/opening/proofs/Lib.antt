@@ -1,5 +1,6 @@
 pub mod Views
 pub mod Frames
+pub mod Standing
 pub mod Taking
 pub mod Open
 pub mod Marks
