@@ -8,3 +8,4 @@ pub mod Split
 pub mod Join
 pub mod Close
 pub mod Moves
+pub mod Granting
