@@ -9,3 +9,4 @@ pub mod Join
 pub mod Close
 pub mod Moves
 pub mod Granting
+pub mod Loosening
