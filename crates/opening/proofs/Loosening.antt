@@ -163,3 +163,60 @@ module _ (I₀ : List ℕ) (h₀ : Header) (on : ℕ) (others : List ℕ) (ib : 
         let (fb, fa, q) = focus-of [] fl (n .row) (all (n .row) (in-onto freeOf (n .row) (i ∷ ib) (n ∷ ia) (inr (chosen-no (λ x. n .row ∈ (x ++ gather freeOf ia)) (n .live) _ _ f (List·Memᴰ·head refl))))) in
         chosen-no (λ m. Loosely I₀ h₀ on others m (nextMerged c₁ (atRow (i .row)))) (n .live) _ _ f
         (rw (next-taken c₁ (atRow (i .row)) (atRow (n .row)) reads (test false f)) (merged fb fa q))
+
+-- ---- the previous item
+
+module _ (m : Loosened) (at b : ItemIndex) (e : get items (m .items) (at .0) .prev ≡ b) where
+  into-step : intoMerged m at ≡ pick (isFreeItem (m .items) (get items (m .items) (at .0) .prev))
+      (record {
+        items = joinNext (m .items) (m .header) (get items (m .items) (at .0) .prev);
+        header = itemFreed (m .header) (get items (m .items) (get items (m .items) (at .0) .prev .0) .next);
+        first = m .first;
+      })
+      (record { items = enlist (m .items) (m .first) at; header = m .header; first = at })
+  unfolding intoMerged isFreeItem joinNext enlist
+  into-step = refl
+
+  -- the item is merged into it where it is free, else it goes to the front of the free list
+  into-taken : isFreeItem (m .items) b ≡ true → get items (m .items) (b .0) .next ≡ at
+      → intoMerged m at ≡ record { items = joinNext (m .items) (m .header) b; header = itemFreed (m .header) at; first = m .first }
+  into-taken t n = into-step ∙ rw (e, t, n)
+
+  into-pushed : isFreeItem (m .items) b ≡ false → intoMerged m at ≡ record { items = enlist (m .items) (m .first) at; header = m .header; first = at }
+  into-pushed t = into-step ∙ rw (e, t)
+
+module _ (I₀ : List ℕ) (h₀ : Header) (on : ℕ) (others : List ℕ) (i : Item) (ia : List Item) (fl : List ℕ) (r : Rows) (c : Loosened)
+    (e : i .live ≡ false) (out : i .row ∈ listed fl → ⊥) where
+  pub into-merged : (ib : List Item) → widths (back-onto ib (i ∷ ia)) ≤ 65535
+      → Loosely I₀ h₀ on others (loose ib i ia fl r) c → Loosely I₀ h₀ on others (mergeInto (loose ib i ia fl r)) (intoMerged c (atRow (i .row)))
+  unfolding mergeInto freeWith freeItemRow widths
+  into-merged [] narrow l =
+      rw (into-pushed c (atRow (i .row)) (atRow noRow) (seen-prev (get items (c .items) (i .row)) (body-is [] i ia (l .open-at))) (no-test (c .items)), l .first)
+      (record { open-at = push-open [] i ia (l .open-at) e out; header = l .header; first = refl })
+  into-merged (b ∷ ib) narrow l = go (b .live) refl where
+    o : Open I₀ (c .items) on (back-onto (b ∷ ib) (i ∷ ia)) fl (r .items) others
+    o = l .open-at
+
+    reads : get items (c .items) (i .row) .prev ≡ atRow (b .row)
+    reads = seen-prev (get items (c .items) (i .row)) (body-is (b ∷ ib) i ia o)
+
+    follows : get items (c .items) (b .row) .next ≡ atRow (i .row)
+    follows = seen-next (get items (c .items) (b .row)) (body-is ib b (i ∷ ia) o)
+
+    test : (q : Bool) → b .live ≡ q → isFreeItem (c .items) (atRow (b .row)) ≡ eqb (flag q) 0
+    test q f = free-test ib b (i ∷ ia) o ∙ ap (λ (k : Bool). eqb (flag k) 0) f
+
+    small : b .width + i .width ≤ 65535
+    small = omega (arith, widths-onto ib (b ∷ i ∷ ia))
+
+    go : (q : Bool) → b .live ≡ q → Loosely I₀ h₀ on others (mergeInto (loose (b ∷ ib) i ia fl r)) (intoMerged c (atRow (i .row)))
+    go true f =
+        chosen-yes (λ m. Loosely I₀ h₀ on others m (intoMerged c (atRow (i .row)))) (b .live) _ _ f
+        (rw (into-pushed c (atRow (i .row)) (atRow (b .row)) reads (test true f), l .first) (record { open-at = push-open (b ∷ ib) i ia o e out; header = l .header; first = refl }))
+    go false f =
+        chosen-no (λ m. Loosely I₀ h₀ on others m (intoMerged c (atRow (i .row)))) (b .live) _ _ f
+        (rw (into-taken c (atRow (i .row)) (atRow (b .row)) reads (test false f) follows) (record {
+          open-at = into-open ib b i ia o f out (c .header) (head-of (r .items) h₀ (c .header) (l .header)) small;
+          header = freed-header (r .items) h₀ (c .header) (record { row = i .row; generation = i .generation }) (l .header);
+          first = l .first;
+        }))
