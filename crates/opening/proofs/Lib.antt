@@ -10,3 +10,4 @@ pub mod Close
 pub mod Moves
 pub mod Granting
 pub mod Loosening
+pub mod Steady
