@@ -11,3 +11,4 @@ pub mod Moves
 pub mod Granting
 pub mod Loosening
 pub mod Steady
+pub mod Releasing
