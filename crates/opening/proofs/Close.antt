@@ -1,7 +1,7 @@
 -- A shelf opened, and closed again after its items changed: the shelf's row and the header are written, and tables and atlas agree.
 -- Assumes nothing.
 use Prim.Native.Nat.{ℕ}
-use mathlib.Core.Path.{_≡_, refl, ap}
+use mathlib.Core.Path.{_≡_, refl}
 use mathlib.Core.Logic.{_≢_, inl, inr, ⊎-elim}
 use mathlib.Core.Bool.{true}
 use mathlib.Core.List.{List, [], _∷_, _++_, List·Memᴰ·head, Memᴰ·cast, Memᴰ·append-left, Memᴰ·append-right, List·Memᴰ·append-cases}
@@ -10,8 +10,8 @@ use lib.Dec.{ltb}
 use borrow.Author.Tests.{lt-ltb}
 use Rattle.numbers.specs.Index.{noRow}
 use Rattle.numbers.specs.declared.index.ItemIndex.{ItemIndex}
-use Rattle.chains.specs.Lists.{_∈_, Distinct, Apart, Each, gather, back-onto}
-use Rattle.chains.specs.Chain.{firstRow, firstOf, Chain}
+use Rattle.chains.specs.Lists.{_∈_, Distinct, Apart, Each, back-onto}
+use Rattle.chains.specs.Chain.{firstRow, firstOf}
 use Rattle.chains.proofs.Lists.{distinct-append, distinct-left, distinct-right, distinct-apart}
 use Rattle.chains.proofs.Chains.{onto-apart, apart-onto, in-onto, onto-in, gather-onto, self, each-split, each-join, chain-frame, chain-replace}
 use Rattle.rows.specs.Row.{rows, get}

@@ -1,6 +1,6 @@
 -- A grant of an item, whole or in part: the tables that the steps leave are those in which the granted atlas stands. Assumes nothing.
 use Prim.Native.Nat.{ℕ, _<_, _≤_, _+_, _*_}
-use mathlib.Core.Path.{_≡_, refl, sym, ap, _∙_}
+use mathlib.Core.Path.{_≡_, refl, ap, _∙_}
 use mathlib.Core.Logic.{inr}
 use mathlib.Core.Bool.{Bool, true, false}
 use mathlib.Core.List.{List, [], _∷_, _++_, List·Memᴰ·head}
@@ -9,7 +9,7 @@ use native.Mathlib.Omega.{arith}
 use lib.Dec.{eqb}
 use Rattle.numbers.specs.Pick.{pick, pick-ap}
 use Rattle.numbers.specs.declared.index.ItemIndex.{ItemIndex}
-use Rattle.chains.specs.Lists.{_∈_, Focus, Each, back-onto}
+use Rattle.chains.specs.Lists.{_∈_, Focus, back-onto}
 use Rattle.chains.specs.Chain.{firstRow, firstOf}
 use Rattle.chains.proofs.Chains.{onto-apart, in-onto, self, first-onto, each-split}
 use Rattle.rows.specs.Row.{rows, get}
@@ -17,13 +17,13 @@ use Rattle.rows.specs.Change.{change}
 use Rattle.rows.specs.Item.{items}
 use Rattle.rows.specs.Shelf.{shelves, withFirstFree, withEmpty}
 use Rattle.rows.specs.Header.{withUsedItems, withFreeItems, withOccupied}
-use Rattle.rows.specs.Pool.{newItem, itemTaken}
+use Rattle.rows.specs.Pool.{newItem}
 use Rattle.rows.specs.declared.header.Header.{Header}
 use Rattle.rows.specs.declared.shelf.ShelfRow.{ShelfRow}
-use Rattle.rules.specs.Atlas.{Item, Shelf, Freed, Pool, Rows, Atlas, isEmpty, liveArea, occupied}
-use Rattle.rules.specs.Grant.{newRow, taken, rowsLeft, newItemRow, itemTaken as itemRowTaken, granted, rest-of, replaceRow, holding, grantWhole, grantPart}
+use Rattle.rules.specs.Atlas.{Item, Shelf, Freed, Pool, Atlas, isEmpty, liveArea, occupied}
+use Rattle.rules.specs.Grant.{taken, rowsLeft, newItemRow, itemTaken as itemRowTaken, granted, rest-of, replaceRow, holding, grantWhole, grantPart}
 use Rattle.rules.specs.Lies.{shelf, item, flag, Lies, headerOf, roomIn}
-use Rattle.rules.specs.Keeps.{allItemRows, Sound}
+use Rattle.rules.specs.Keeps.{allItemRows}
 use Rattle.steps.specs.Wrap.{plus32, plus32-is}
 use Rattle.steps.specs.State.{State}
 use Rattle.steps.specs.Live.{atRow, areaAt}

@@ -2,25 +2,25 @@
 use Prim.Native.Nat.{ℕ, _<_, _≤_, _+_}
 use mathlib.Core.Path.{_≡_, refl, sym, ap, _∙_}
 use mathlib.Core.Logic.{_≢_, inr, ⊎-elim}
-use mathlib.Core.List.{List, [], _∷_, _++_, List·Memᴰ·head, List·Memᴰ·tail, List·Memᴰ·append-cases, List·Memᴰ·eq-of-singleton, Memᴰ·cast, Memᴰ·append-left, Memᴰ·append-right}
+use mathlib.Core.List.{List, _∷_, _++_, List·Memᴰ·head, List·Memᴰ·tail, List·Memᴰ·append-cases, List·Memᴰ·eq-of-singleton, Memᴰ·cast, Memᴰ·append-left, Memᴰ·append-right}
 use native.Mathlib.Omega.{arith}
 use Rattle.numbers.specs.Index.{noRow}
 use Rattle.chains.specs.Lists.{_∈_, Distinct, gather, back-onto}
-use Rattle.chains.specs.Chain.{firstRow, Chain}
+use Rattle.chains.specs.Chain.{firstRow}
 use Rattle.chains.proofs.Lists.{not-out, distinct-append, distinct-right, distinct-apart}
 use Rattle.chains.proofs.Chains.{onto-apart, in-onto, onto-map, chain-any, chain-frame, ne-first}
 use Rattle.chains.proofs.Changes.{chain-drop, rows-drop}
-use Rattle.rows.specs.Row.{rows, get, put, rows-put}
+use Rattle.rows.specs.Row.{get, put, rows-put}
 use Rattle.rows.specs.Change.{change, rows-change}
 use Rattle.rows.specs.Item.{items, withItemPrev}
 use Rattle.rows.specs.Pool.{removeItem, freedItemRow}
-use Rattle.rows.specs.Views.{Body, bodyOf, linksOf}
+use Rattle.rows.specs.Views.{bodyOf, linksOf}
 use Rattle.rows.specs.declared.header.Header.{Header}
 use Rattle.rules.specs.Atlas.{Item, Freed, Pool}
 use Rattle.rules.specs.Release.{freeing}
-use Rattle.rules.specs.Lies.{item, free, liveRows, freeRows, freedItem}
+use Rattle.rules.specs.Lies.{item, free, liveRows, freedItem}
 use Rattle.rules.specs.Keeps.{itemRows, freedRows, Shared}
-use Rattle.steps.specs.Wrap.{plus16, plus16-is}
+use Rattle.steps.specs.Wrap.{plus16-is}
 use Rattle.steps.specs.Live.{atRow}
 use Rattle.steps.specs.ItemEdits.{withSpan, joinNext}
 use Rattle.opening.proofs.Views.{sights, bodyPrev, bodySpan, seen-next, seen-width, seen-generation}

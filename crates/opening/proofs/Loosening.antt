@@ -2,7 +2,7 @@
 -- Assumes nothing.
 use Prim.Native.Nat.{ℕ, _≤_, _+_}
 use mathlib.Core.Path.{_≡_, refl, sym, ap, _∙_}
-use mathlib.Core.Logic.{inl, inr}
+use mathlib.Core.Logic.{inr}
 use mathlib.Core.Bool.{Bool, true, false}
 use mathlib.Core.List.{List, [], _∷_, _++_, List·Memᴰ·head}
 use native.Mathlib.Omega.{arith}
@@ -11,7 +11,7 @@ use borrow.Author.Tests.{ne-eqb}
 use Rattle.numbers.specs.Pick.{pick, pick-ap}
 use Rattle.numbers.specs.Index.{noRow}
 use Rattle.numbers.specs.declared.index.ItemIndex.{ItemIndex}
-use Rattle.chains.specs.Lists.{_∈_, Focus, gather, back-onto}
+use Rattle.chains.specs.Lists.{_∈_, gather, back-onto}
 use Rattle.chains.specs.Chain.{firstRow, firstOf}
 use Rattle.chains.proofs.Chains.{onto-apart, in-onto, self}
 use Rattle.rows.specs.Row.{get}

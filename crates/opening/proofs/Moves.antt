@@ -13,7 +13,7 @@ use Rattle.rows.specs.Change.{change}
 use Rattle.rows.specs.Item.{items}
 use Rattle.rows.specs.declared.header.Header.{Header}
 use Rattle.rules.specs.Atlas.{Item, Freed, Pool, Rows}
-use Rattle.rules.specs.Grant.{newRow, taken, rowsLeft, newItemRow, itemTaken, granted, rest-of}
+use Rattle.rules.specs.Grant.{newRow, taken, rowsLeft, newItemRow, granted, rest-of}
 use Rattle.rules.specs.Release.{freeing, freeWith}
 use Rattle.rules.specs.Keeps.{itemRows}
 use Rattle.steps.specs.Live.{atRow}

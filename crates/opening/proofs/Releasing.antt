@@ -4,14 +4,14 @@ use Prim.Native.Nat.{ℕ, _<_, _≤_, _+_, _-_, _*_}
 use mathlib.Core.Path.{_≡_, refl, sym, ap, _∙_, subst}
 use mathlib.Core.Logic.{inr}
 use mathlib.Core.Bool.{Bool, true, false, not, _&&_}
-use mathlib.Core.List.{List, [], _∷_, _++_, List·Memᴰ·head, List·Memᴰ·tail}
+use mathlib.Core.List.{List, [], _∷_, _++_, List·Memᴰ·head}
 use native.Mathlib.Omega.{arith}
 use lib.Dec.{eqb}
 use borrow.Author.Tests.{ne-eqb}
 use Rattle.numbers.specs.Pick.{pick}
 use Rattle.numbers.specs.Index.{noRow}
 use Rattle.numbers.specs.declared.index.ItemIndex.{ItemIndex}
-use Rattle.chains.specs.Lists.{_∈_, Focus, back-onto}
+use Rattle.chains.specs.Lists.{back-onto}
 use Rattle.chains.specs.Chain.{firstRow, firstOf}
 use Rattle.chains.proofs.Chains.{in-onto}
 use Rattle.rows.specs.Row.{get, get-none}
@@ -21,12 +21,12 @@ use Rattle.rows.specs.Shelf.{shelves}
 use Rattle.rows.specs.Header.{withUsedItems, withFreeItems, withOccupied}
 use Rattle.rows.specs.declared.header.Header.{Header}
 use Rattle.rows.specs.declared.shelf.ShelfRow.{ShelfRow}
-use Rattle.rules.specs.Atlas.{Item, Shelf, Freed, Pool, Rows, Atlas, isEmpty, liveArea, occupied}
+use Rattle.rules.specs.Atlas.{Item, Shelf, Freed, Pool, Atlas, isEmpty, liveArea, occupied}
 use Rattle.rules.specs.Grant.{holding}
 use Rattle.rules.specs.Release.{Loose, Found, mergeNext, mergeInto}
-use Rattle.rules.specs.Lies.{shelf, item, flag, Lies, headerOf, roomIn}
-use Rattle.rules.specs.Keeps.{allItemRows, Sound, AllListed}
-use Rattle.steps.specs.Wrap.{minus32, minus32-is}
+use Rattle.rules.specs.Lies.{shelf, item, flag, headerOf}
+use Rattle.rules.specs.Keeps.{allItemRows, AllListed}
+use Rattle.steps.specs.Wrap.{minus32-is}
 use Rattle.steps.specs.State.{State}
 use Rattle.steps.specs.Live.{atRow, areaAt}
 use Rattle.steps.specs.ItemEdits.{markFree, unlist, enlist, joinNext, firstAfter}
@@ -35,7 +35,6 @@ use Rattle.steps.specs.Release.{Loose as Loosened, isFreeItem, absorbNext, merg
 use Rattle.opening.proofs.Views.{seen-next, seen-allocated}
 use Rattle.opening.proofs.Frames.{area-onto, occupied-onto, live-free}
 use Rattle.opening.proofs.Standing.{Stands, onRow, shelf-says, widths, NarrowShelf}
-use Rattle.opening.proofs.Taking.{freedRow}
 use Rattle.opening.proofs.Open.{Open, once, some}
 use Rattle.opening.proofs.Marks.{liveOf, at-in, body-is}
 use Rattle.opening.proofs.Close.{reshelved, open-shelf, close-lies, close-sound, close-header}

@@ -1,23 +1,20 @@
 -- An atlas that stands in a header and two tables: it lies there, and every row is where it serves. What keeps its stored sums from
 -- wrapping. Assumes nothing.
 use Prim.Native.Nat.{ℕ, _+_, _*_, _≤_}
-use mathlib.Core.Path.{_≡_, refl, ap}
-use mathlib.Core.Bool.{Bool, true, false}
+use mathlib.Core.Path.{_≡_}
 use mathlib.Core.List.{List, [], _∷_}
 use native.Mathlib.Omega.{arith}
 use native.Mathlib.Nat.{add-mul}
-use Rattle.numbers.specs.Pick.{pick}
-use Rattle.numbers.specs.Index.{noRow}
 use Rattle.numbers.specs.declared.index.ShelfIndex.{ShelfIndex}
 use Rattle.chains.specs.Lists.{Each, back-onto}
-use Rattle.chains.specs.Chain.{firstRow, firstOf, Chain}
+use Rattle.chains.specs.Chain.{firstRow}
 use Rattle.chains.proofs.Chains.{chain-split}
 use Rattle.rows.specs.Row.{rows, get}
 use Rattle.rows.specs.Item.{items}
 use Rattle.rows.specs.Shelf.{shelves}
 use Rattle.rows.specs.declared.header.Header.{Header}
-use Rattle.rules.specs.Atlas.{Item, Shelf, Atlas, liveArea, occupied}
-use Rattle.rules.specs.Lies.{shelf, Lies, headerOf, roomIn}
+use Rattle.rules.specs.Atlas.{Item, Shelf, Atlas, occupied}
+use Rattle.rules.specs.Lies.{shelf, Lies, roomIn}
 use Rattle.rules.specs.Keeps.{Sound}
 use Rattle.steps.specs.State.{State}
 

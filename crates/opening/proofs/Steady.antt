@@ -6,7 +6,7 @@ use mathlib.Core.Bool.{Bool, true, false}
 use mathlib.Core.List.{List, [], _∷_}
 use native.Mathlib.Omega.{arith}
 use Rattle.numbers.specs.Pick.{pick}
-use Rattle.chains.specs.Lists.{_∈_, Focus, back-onto}
+use Rattle.chains.specs.Lists.{_∈_, back-onto}
 use Rattle.chains.specs.Chain.{firstRow}
 use Rattle.chains.proofs.Chains.{self, first-onto}
 use Rattle.rules.specs.Atlas.{Item, Pool, Rows, liveArea}
