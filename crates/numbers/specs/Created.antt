@@ -1,6 +1,6 @@
 -- What create accepts is within the limits. Assumes nothing.
 use Prim.Native.Nat.{ℕ, _*_, _-_, _/_, _%_, _≤_}
-use mathlib.Core.Path.{_≡_, refl, sym, ap, _∙_}
+use mathlib.Core.Path.{_≡_, refl}
 use mathlib.Core.Bool.{Bool, true, false, _&&_}
 use native.Mathlib.Nat.{div-add-mod', mul-mod-left}
 use native.Mathlib.Omega.{arith}
@@ -8,7 +8,6 @@ use lib.Dec.{leb}
 use lib.IntN.{ℤ}
 use borrow.Author.Tests.{leb-true, le-leb, eq-eqb}
 use Rattle.numbers.specs.declared.limits.Limits.{Limits}
-use Rattle.numbers.specs.declared.limits.Made.{Made}
 use Rattle.numbers.specs.declared.limits.Made.the-variants.{Good, Refused}
 use Rattle.numbers.specs.Pick.{pick}
 use Rattle.numbers.specs.Tests.{both}
