@@ -10,3 +10,4 @@ pub mod Request
 pub mod Limits
 pub mod Created
 pub mod Examples
+pub mod Placeable
