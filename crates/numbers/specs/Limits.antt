@@ -1,15 +1,15 @@
 -- The limits of an atlas: what create accepts, and what every header keeps. Assumes nothing.
 use Prim.Native.Nat.{ℕ, _*_, _-_, _/_, _%_, _<_, _≤_}
-use mathlib.Core.Path.{_≡_, refl, sym, _∙_}
+use mathlib.Core.Path.{_≡_, _∙_}
 use mathlib.Core.Bool.{Bool, true, false, _&&_}
-use native.Mathlib.Nat.{div-le-self}
+use native.Mathlib.Nat.{div-le-self, div-mul-le-self, le-div-iff-mul-le}
 use native.Mathlib.Omega.{arith}
 use lib.Dec.{leb, eqb}
 use lib.IntN.{ℤ}
 use Rattle.numbers.specs.declared.limits.Limits.{Limits}
 use Rattle.numbers.specs.declared.limits.Made.{Made}
 use Rattle.numbers.specs.declared.limits.Made.the-variants.{Good, Refused}
-use borrow.Author.Tests.{leb-true, le-leb, lt-leb}
+use borrow.Author.Tests.{leb-true, le-leb, lt-leb, eqb-true}
 use Rattle.numbers.specs.Pick.{pick, pick-yes, pick-no}
 use Rattle.numbers.specs.Tests.{both}
 use Rattle.numbers.specs.Axes.{along, deep}
@@ -126,6 +126,37 @@ options-true alignWidth alignHeight vertical e =
       most-align-height = h .1;
       flag = leb-true vertical 1 (u .1);
     }
+
+pub record Within (l : Limits) : Type 0 where
+  pub sizes : GoodSizes (l .width) (l .height)
+  pub options : GoodOptions (l .«align_width») (l .«align_height») (l .vertical)
+  pub some-shelf-width : 1 ≤ l .«shelf_width»
+  pub most-shelf-width : l .«shelf_width» ≤ l .width
+  pub multiple : l .«shelf_width» % alongStep l ≡ 0
+
+pub within-true : (l : Limits) → withinLimits l ≡ true → Within l
+unfolding withinLimits shelfWidthGood
+within-true l e =
+    let t = both (sizesGood (l .width) (l .height)) _ e in
+    let u = both (optionsGood (l .«align_width») (l .«align_height») (l .vertical)) _ (t .1) in
+    let v = both (oneTo (l .width) (l .«shelf_width»)) _ (u .1) in
+    let s = one-to-true (l .width) (l .«shelf_width») (v .0) in
+    record {
+      sizes = sizes-true _ _ (t .0);
+      options = options-true _ _ _ (u .0);
+      some-shelf-width = s .0;
+      most-shelf-width = s .1;
+      multiple = eqb-true _ _ (v .1);
+    }
+
+-- there is a column, and all of them lie within W
+pub some-columns : (width shelfWidth : ℕ) → 1 ≤ shelfWidth → shelfWidth ≤ width → 1 ≤ columnsOf width shelfWidth
+unfolding columnsOf
+some-columns width shelfWidth some most = le-div-iff-mul-le some .1 (omega arith)
+
+pub columns-fit : (width shelfWidth : ℕ) → columnsOf width shelfWidth * shelfWidth ≤ width
+unfolding columnsOf
+columns-fit width shelfWidth = div-mul-le-self width shelfWidth
 
 -- S is at most W
 pub shelf-width-most : (width columns step : ℕ) → shelfWidthOf width columns step ≤ width

@@ -1,15 +1,10 @@
-use mathlib.Core.Path.{_≡_, refl, sym, _∙_}
+use mathlib.Core.Path.{_≡_}
 use Rattle.numbers.specs.Sides.{natural, flagOf}
 use Rattle.numbers.specs.Limits.{createNumbers}
 use Rattle.numbers.proofs.Signed.{as-given}
 use borrow.Author.Needs.{needs}
 use Rattle.numbers.proofs.limits.create_numbers.Statement.{statement}
 use Rattle.numbers.proofs.limits.create_numbers.Tie as tie
-use Rattle.numbers.proofs.limits.create_numbers.Reads as reads
-use Rattle.numbers.proofs.limits.create_numbers.Lts as lts
-use Rattle.numbers.proofs.limits.judge_limits.Reads as judge-limits-reads
-use Rattle.numbers.proofs.sides.flag_of.Reads as flag-of-reads
-use Rattle.numbers.proofs.sides.natural_of.Reads as natural-of-reads
 
 natural-of-requires : tie.Need-natural-of-requires
 natural-of-requires c κs = search needs

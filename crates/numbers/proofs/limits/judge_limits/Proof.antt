@@ -1,11 +1,11 @@
-use mathlib.Core.Path.{_≡_, refl, sym, _∙_}
-use mathlib.Core.Bool.{true, false}
+use mathlib.Core.Path.{_≡_, sym, _∙_}
+use mathlib.Core.Bool.{true}
 use native.Mathlib.Omega.{arith}
 use borrow.Author.Needs.{needs}
 use borrow.Author.Tests.{not-true, not-false}
 use Rattle.numbers.specs.Tests.{stop}
 use Rattle.numbers.specs.Axes.{along, deep}
-use Rattle.numbers.specs.Limits.{sizesGood, optionsGood, limitsFor, judgedLimits, shelfWidthOf}
+use Rattle.numbers.specs.Limits.{sizesGood, optionsGood, limitsFor, shelfWidthOf}
 use Rattle.numbers.specs.Limits.{sizes-true, options-true, shelf-width-most, refused-1, refused-2, no-columns, no-shelf-width, accepted}
 use Rattle.numbers.proofs.limits.judge_limits.Statement.{statement}
 use Rattle.numbers.proofs.limits.judge_limits.Tie as tie

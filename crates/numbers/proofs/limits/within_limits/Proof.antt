@@ -1,77 +1,55 @@
-use mathlib.Core.Path.{_≡_, refl, sym, _∙_}
 use Rattle.numbers.specs.Tests.{stop, go-on}
 use Rattle.numbers.specs.Limits.{withinLimits, alongStep}
 use borrow.Author.Needs.{needs}
 use Rattle.numbers.proofs.limits.within_limits.Statement.{statement}
 use Rattle.numbers.proofs.limits.within_limits.Tie as tie
-use Rattle.numbers.proofs.limits.within_limits.Reads as reads
-use Rattle.numbers.proofs.limits.within_limits.Lts as lts
-use Rattle.numbers.proofs.axes.along.Reads as along-reads
-use Rattle.numbers.proofs.limits.options_good.Reads as options-good-reads
-use Rattle.numbers.proofs.limits.shelf_width_good.Reads as shelf-width-good-reads
-use Rattle.numbers.proofs.limits.sizes_good.Reads as sizes-good-reads
 
--- src/limits.rt:92:20
 cast-sizes-good : tie.Need-cast-sizes-good
 cast-sizes-good c = search needs
 
--- src/limits.rt:92:36
 cast-sizes-good-2 : tie.Need-cast-sizes-good-2
 cast-sizes-good-2 c = search needs
 
--- src/limits.rt:92:9
 sizes-good-requires : tie.Need-sizes-good-requires
 sizes-good-requires c κs = search needs
 
--- src/limits.rt:93:9
 returns : tie.Need-returns
 unfolding withinLimits
 returns c = stop _ _ (c .before .sizes-good .ensures) (c .if1 .taken)
 
--- src/limits.rt:95:22
 cast-options-good : tie.Need-cast-options-good
 cast-options-good c = search needs
 
--- src/limits.rt:95:44
 cast-options-good-2 : tie.Need-cast-options-good-2
 cast-options-good-2 c = search needs
 
--- src/limits.rt:95:9
 options-good-requires : tie.Need-options-good-requires
 options-good-requires c κs = search needs
 
--- src/limits.rt:96:9
 returns-2 : tie.Need-returns-2
 unfolding withinLimits
 returns-2 c =
     let k = c .before .before .before .before in
     go-on _ _ (k .before .sizes-good .ensures) (k .if1 .left) (stop _ _ (c .before .options-good .ensures) (c .if2 .taken))
 
--- src/limits.rt:98:34
 cast-along : tie.Need-cast-along
 cast-along c = search needs
 
--- src/limits.rt:98:56
 cast-along-2 : tie.Need-cast-along-2
 cast-along-2 c = search needs
 
--- src/limits.rt:98:9
 along-requires : tie.Need-along-requires
 along-requires c κs = search needs
 
--- src/limits.rt:99:22
 cast-shelf-width-good : tie.Need-cast-shelf-width-good
 cast-shelf-width-good c = search needs
 
--- src/limits.rt:99:38
 cast-shelf-width-good-2 : tie.Need-cast-shelf-width-good-2
 cast-shelf-width-good-2 c = search needs
 
--- src/limits.rt:99:5
 shelf-width-good-requires : tie.Need-shelf-width-good-requires
 shelf-width-good-requires c κs = search needs
 
--- src/limits.rt:89:1
 returns-3 : tie.Need-returns-3
 unfolding withinLimits alongStep
 returns-3 c =
