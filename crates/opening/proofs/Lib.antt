@@ -12,3 +12,4 @@ pub mod Granting
 pub mod Loosening
 pub mod Steady
 pub mod Releasing
+pub mod Bounds
