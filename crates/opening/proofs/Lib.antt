@@ -9,6 +9,8 @@ pub mod Join
 pub mod Close
 pub mod Moves
 pub mod Granting
+pub mod Placing
 pub mod Loosening
 pub mod Steady
 pub mod Releasing
+pub mod Bounds
