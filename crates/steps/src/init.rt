@@ -1,0 +1,1 @@
+// Create and clear: the first rows of both tables written.

@@ -1,0 +1,17 @@
+// Where a request goes: the walk of the shelf chain.
+use numbers::index::ItemIndex;
+use numbers::index::ShelfIndex;
+
+// An item of a shelf, and the shelf's depth.
+pub struct Place {
+    pub shelf: ShelfIndex,
+    pub item: ItemIndex,
+    pub height: u16,
+}
+
+// What the walk holds.
+pub enum Held {
+    Nothing,
+    Good(Place),
+    Bad(Place),
+}

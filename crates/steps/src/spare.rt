@@ -1,0 +1,1 @@
+// Whether the rows suffice for the splits that a place needs.
