@@ -1,14 +1,13 @@
 -- Create and clear: a fresh atlas lies in the rows that they write, and they write rows 0 to C - 1 only. Assumes nothing.
 use Prim.Native.Nat.{ℕ, zero, suc, _<_, _≤_, _+_, _*_}
 use mathlib.Core.Path.{_≡_, refl, ap, _∙_}
-use mathlib.Core.Logic.{⊎-elim}
-use mathlib.Core.List.{List, [], _∷_, List·Memᴰ·head, List·Memᴰ·tail, List·Memᴰ·not-nil, List·Memᴰ·cases-cons}
+use mathlib.Core.List.{List, List·Memᴰ·not-nil}
 use native.Mathlib.Nat.{suc-mul, le-div-iff-mul-le}
 use native.Mathlib.Decide.{ℕ-discrete}
 use native.Mathlib.Omega.{arith}
 use borrow.Author.Tests.{eq-eqb, ne-eqb}
 use Rattle.numbers.specs.declared.limits.Limits.{Limits}
-use Rattle.chains.specs.Lists.{_∈_, Distinct, Each, gather}
+use Rattle.chains.specs.Lists.{Each}
 use Rattle.chains.specs.Chain.{firstRow, Chain}
 use Rattle.rows.specs.Row.{Shape, rows, get, put, rows-put, get-put-same, get-put-other}
 use Rattle.rows.specs.Item.{items}
@@ -16,9 +15,8 @@ use Rattle.rows.specs.Shelf.{shelves, withShelfX, withHeight, withShelfPrev, wi
 use Rattle.rows.specs.Header.{withAtlasWidth, withAtlasHeight, withAlignWidth, withAlignHeight, withVertical, withShelfWidth, withUsedShelves, withUsedItems, withFreeItems, withFreeShelves}
 use Rattle.rows.specs.Views.{bodyOf, linksOf}
 use Rattle.rules.specs.Limits.{columns, WithinLimits}
-use Rattle.rules.specs.Atlas.{Shelf, isEmpty, liveArea, occupied, freshShelf, freshShelves, fresh}
+use Rattle.rules.specs.Atlas.{isEmpty, liveArea, occupied, freshShelf, freshShelves, fresh}
 use Rattle.rules.specs.Lies.{shelf, Holds, headerOf, Lies, roomIn}
-use Rattle.rules.specs.Keeps.{itemRows, FreeListed, Shared, Sound}
 use Rattle.steps.specs.Wrap.{times16, times16-is}
 use Rattle.steps.specs.Init.{writeRows, rowBefore, rowAfter, freshShelfRow, freshItemRow, freshShelfTable, freshItemTable, freshHeader}
 use Rattle.opening.proofs.Views.{bodyLone, body-loneItem, links-loneItem}
@@ -41,39 +39,6 @@ module _ {A : Type 0} (s : Shape A) (f : ℕ → A) where
     go (no d) ih = get-put-other s (writeRows s f n t) n r (f n) d ∙ ih (omega arith)
 
 module _ (l : Limits) where
-  -- ---- the rows of n fresh shelves from k on are k to k + n - 1
-
-  module _ (f : Shelf → List ℕ) (is : (k : ℕ) → f (freshShelf l k) ≡ k ∷ []) where
-    within-rows : (k n r : ℕ) → r ∈ gather f (freshShelves l k n) → (k ≤ r) × (r < k + n)
-    unfolding freshShelves
-    within-rows k zero r m = absurd (List·Memᴰ·not-nil m)
-    within-rows k (suc n) r m =
-        ⊎-elim
-        (λ e. (omega arith, omega arith))
-        (λ q. let w : (suc k ≤ r) × (r < suc k + n) = within-rows (suc k) n r q in (omega arith, omega arith))
-        (List·Memᴰ·cases-cons (rw (is k) at m))
-
-    all-rows : (k n r : ℕ) → k ≤ r → r < k + n → r ∈ gather f (freshShelves l k n)
-    unfolding freshShelves
-    all-rows k zero r a b = absurd (omega arith)
-    all-rows k (suc n) r a b = rw (is k) (go (ℕ-discrete r k) (all-rows (suc k) n r)) where
-      go : Dec (r ≡ k) → (suc k ≤ r → r < suc k + n → r ∈ gather f (freshShelves l (suc k) n)) → r ∈ (k ∷ gather f (freshShelves l (suc k) n))
-      go (yes e) ih = List·Memᴰ·head e
-      go (no d) ih = List·Memᴰ·tail (ih (omega arith) (omega arith))
-
-    once : (k n : ℕ) → Distinct (gather f (freshShelves l k n))
-    unfolding freshShelves
-    once k zero = tt
-    once k (suc n) = rw (is k) (λ m. let w : (suc k ≤ k) × (k < suc k + n) = within-rows (suc k) n k m in omega arith, once (suc k) n)
-
-    fresh-shared : (n : ℕ) → Shared n (gather f (freshShelves l 0 n)) []
-    fresh-shared n = record {
-      serving-once = once 0 n;
-      serving-used = λ r m. let w : (0 ≤ r) × (r < 0 + n) = within-rows 0 n r m in omega arith;
-      freed-once = tt;
-      freed-exactly = λ r. (λ m. absurd (List·Memᴰ·not-nil m), λ x. absurd (x .1 (all-rows 0 n r (omega arith) (omega (arith, x .0)))));
-    }
-
   -- ---- they lie in tables that say what create and clear write
 
   module _ (c : ℕ) (S I : List ℕ) (fits : (k : ℕ) → k < c → times16 k (l .«shelf_width») ≡ k * l .«shelf_width»)
@@ -103,11 +68,6 @@ module _ (l : Limits) where
       },
       fresh-holds (suc k) n (omega arith),
     )
-
-  fresh-listed : (k n : ℕ) → Each FreeListed (freshShelves l k n)
-  unfolding freshShelves freshShelf
-  fresh-listed k zero = tt
-  fresh-listed k (suc n) = (record { once = (λ m. List·Memᴰ·not-nil m, tt); only = λ r m. m }, fresh-listed (suc k) n)
 
   nothing-occupied : (k n : ℕ) → occupied (freshShelves l k n) ≡ 0
   unfolding freshShelves freshShelf occupied liveArea
@@ -152,22 +112,10 @@ module _ (l : Limits) where
       freed-items = tt;
     }
 
-    row-is : (k : ℕ) → freshShelf l k .row ∷ [] ≡ k ∷ []
-    unfolding freshShelf
-    row-is k = refl
-
-    item-is : (k : ℕ) → itemRows (freshShelf l k .items) ≡ k ∷ []
-    unfolding freshShelf
-    item-is k = refl
-
-    pub fresh-sound : Sound (roomIn S′ I′) (fresh l)
-    unfolding roomIn fresh freshShelfTable freshItemTable
-    fresh-sound = record {
-      in-room = record { shelves = rw rows-written shelf-room; items = rw rows-written item-room };
-      free-listed = fresh-listed 0 (columns l);
-      shelf-rows = fresh-shared (λ s. s .row ∷ []) row-is (columns l);
-      item-rows = fresh-shared (λ s. itemRows (s .items)) item-is (columns l);
-    }
+-- the tables have the room that they had
+pub fresh-room : (l : Limits) (n : ℕ) (S I : List ℕ) → roomIn (freshShelfTable l n S) (freshItemTable l n I) ≡ roomIn S I
+unfolding roomIn freshShelfTable freshItemTable
+fresh-room l n S I = simp rows-written
 
 -- ---- create and clear write rows 0 to n - 1 only
 

@@ -1,2 +1,4 @@
 pub mod Past
+pub mod Used
 pub mod Fresh
+pub mod Merge
