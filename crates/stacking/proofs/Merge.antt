@@ -31,6 +31,7 @@ use Rattle.opening.proofs.Views.{reads, seen-generation}
 use Rattle.opening.proofs.Frames.{holds-frame, each-holds, occupied-onto}
 use Rattle.opening.proofs.Taking.{freed-shared}
 use Rattle.stacking.proofs.Past.{Past, past-same, past-put, past-change}
+use Rattle.stacking.proofs.Leads.{Leads}
 use Rattle.stacking.proofs.Used.{inRow, used-shelves, used-items, shelf-some, shelf-there, item-there, first-used}
 
 module _ (h : Header) (S I : List ℕ) (a : Atlas) (bs : List Shelf) (p s : Shelf) (ys : List Shelf) (i j : Item)
@@ -98,7 +99,7 @@ module _ (h : Header) (S I : List ℕ) (a : Atlas) (bs : List Shelf) (p s : Shel
   its-item : get shelves joined (s .row) .«first_item» ≡ record { 0 = i .row }
   its-item = simp (reads, s-p, s-next) (rw (below-is, lone))
 
-  pub merge-is : mergeShelves (state h S I) (inRow (p .row)) (inRow (s .row)) ≡ state h′ S′ I′
+  merge-is : mergeShelves (state h S I) (inRow (p .row)) (inRow (s .row)) ≡ state h′ S′ I′
   unfolding mergeShelves removeShelf removeShelfItem removeItem shelfFreed itemFreed
   merge-is = rw (join-is, its-item)
 
@@ -203,13 +204,13 @@ module _ (h : Header) (S I : List ℕ) (a : Atlas) (bs : List Shelf) (p s : Shel
         none j (p .depth + s .depth) is-free-above,
       )
 
-  abbrev pub merged : Atlas
+  abbrev merged : Atlas
   merged = record { limits = a .limits; shelves = back-onto bs (p′ ∷ ys); rows = freeShelf s (a .rows) }
 
-  abbrev pub merge : State
+  abbrev merge : State
   merge = mergeShelves (state h S I) (inRow (p .row)) (inRow (s .row))
 
-  pub merge-lies : Lies (merge .header) (merge .shelves) (merge .items) merged
+  merge-lies : Lies (merge .header) (merge .shelves) (merge .items) merged
   unfolding headerOf withFreeShelves withFreeItems
   merge-lies = rw (merge-is, freed-is) (record {
     header = cc (lies .header, new-occupied);
@@ -219,7 +220,7 @@ module _ (h : Header) (S I : List ℕ) (a : Atlas) (bs : List Shelf) (p s : Shel
     freed-items = new-freed-items;
   })
 
-  pub merge-sound : Sound (roomIn (merge .shelves) (merge .items)) merged
+  merge-sound : Sound (roomIn (merge .shelves) (merge .items)) merged
   unfolding roomIn deeper
   merge-sound =
       let (ds, sx, s-to, s-from) = rows-drop (λ (q : Shelf). q .row ∷ []) bs p p′ s ys (s .row) refl refl shelf-once in
@@ -234,13 +235,16 @@ module _ (h : Header) (S I : List ℕ) (a : Atlas) (bs : List Shelf) (p s : Shel
 
   -- ---- nothing changes past the used rows
 
-  pub merge-shelves-past : Past shelves (a .rows .shelves .used) S (merge .shelves)
-  merge-shelves-past =
+  shelves-stay : Past shelves (a .rows .shelves .used) S (merge .shelves)
+  shelves-stay =
       let used : (r : ℕ) → r ∈ shelfRows (a .shelves) → r < a .rows .shelves .used = sound .shelf-rows .serving-used in
       rw merge-is (past-put shelves _ (past-change shelves _ (past-change shelves _ (past-same shelves _ S)
       (p .row) _ (inl (used (p .row) p-in)))
       next _ (first-used _ ys (λ r m. used r (serves r (inr (List·Memᴰ·tail (List·Memᴰ·tail m)))))))
       (s .row) _ (used (s .row) s-in))
 
-  pub merge-items-past : Past items (a .rows .items .used) I (merge .items)
-  merge-items-past = rw merge-is (past-put items _ (past-same items _ I) (i .row) _ (sound .item-rows .serving-used (i .row) i-in))
+  items-stay : Past items (a .rows .items .used) I (merge .items)
+  items-stay = rw merge-is (past-put items _ (past-same items _ I) (i .row) _ (sound .item-rows .serving-used (i .row) i-in))
+
+  pub merge-leads : Leads (state h S I) merge merged
+  merge-leads = record { lies = merge-lies; sound = merge-sound; shelves-past = rw freed-is shelves-stay; items-past = rw freed-is items-stay }

@@ -40,3 +40,10 @@ module _ {A : Type 0} (s : Shape A) (n : ℕ) where
 -- more rows may have changed
 pub past-more : {A : Type 0} (s : Shape A) {n : ℕ} (m : ℕ) {l t : List ℕ} → n ≤ m → Past s n l t → Past s m l t
 past-more s m b p = record { as-long = p .as-long; rest-kept = p .rest-kept; later = λ j c. p .later j (omega arith) }
+
+pub past-then : {A : Type 0} (s : Shape A) {n : ℕ} {l t u : List ℕ} → Past s n l t → Past s n t u → Past s n l u
+past-then s p q = record {
+  as-long = q .as-long ∙ p .as-long;
+  rest-kept = q .rest-kept ∙ p .rest-kept;
+  later = λ j b. q .later j b ∙ p .later j b;
+}
