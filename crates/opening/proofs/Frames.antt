@@ -1,5 +1,5 @@
 -- A shelf whose rows no change touches holds what it held; sums, free lists and shelves around a place. Assumes nothing.
-use Prim.Native.Nat.{ℕ, _+_, _*_}
+use Prim.Native.Nat.{ℕ, _+_}
 use mathlib.Core.Path.{_≡_, refl, sym, ap, _∙_}
 use mathlib.Core.Logic.{⊎-elim}
 use mathlib.Core.Bool.{Bool, true, false}
@@ -9,8 +9,8 @@ use lib.Dec.{eqb}
 use borrow.Author.Tests.{eq-eqb, ne-eqb}
 use Rattle.numbers.specs.Pick.{pick}
 use Rattle.numbers.specs.Index.{noRow}
-use Rattle.chains.specs.Lists.{_∈_, Distinct, Apart, Each, gather, back-onto}
-use Rattle.chains.specs.Chain.{firstRow, firstOf}
+use Rattle.chains.specs.Lists.{_∈_, Distinct, Apart, Each, back-onto}
+use Rattle.chains.specs.Chain.{firstOf}
 use Rattle.chains.proofs.Chains.{within, parts-apart, self, chain-frame, first-onto, first-in}
 use Rattle.rows.specs.Row.{get}
 use Rattle.rows.specs.Item.{items}

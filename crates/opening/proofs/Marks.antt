@@ -1,9 +1,9 @@
 -- An item of an opened shelf marked live or free, and what the code reads of the items there. Assumes nothing.
 use Prim.Native.Nat.{ℕ}
-use mathlib.Core.Path.{_≡_, refl, ap, _∙_}
+use mathlib.Core.Path.{_≡_, refl, ap}
 use mathlib.Core.Logic.{_≢_, inr, ⊎-elim}
 use mathlib.Core.Bool.{true, false}
-use mathlib.Core.List.{List, [], _∷_, _++_, List·Memᴰ·head, List·Memᴰ·tail, List·Memᴰ·append-cases, List·Memᴰ·eq-of-singleton, Memᴰ·cast, Memᴰ·append-right}
+use mathlib.Core.List.{List, [], _∷_, List·Memᴰ·head, List·Memᴰ·tail, List·Memᴰ·append-cases, List·Memᴰ·eq-of-singleton, Memᴰ·cast, Memᴰ·append-right}
 use native.Mathlib.Decide.{ℕ-discrete}
 use Rattle.numbers.specs.Pick.{pick}
 use Rattle.numbers.specs.Index.{noRow}
@@ -11,12 +11,12 @@ use Rattle.chains.specs.Lists.{_∈_, gather, back-onto}
 use Rattle.chains.specs.Chain.{firstRow}
 use Rattle.chains.proofs.Lists.{not-out}
 use Rattle.chains.proofs.Chains.{in-onto, gather-onto, onto-map, chain-split, chain-frame, chain-replace}
-use Rattle.rows.specs.Row.{rows, get}
+use Rattle.rows.specs.Row.{get}
 use Rattle.rows.specs.Change.{change, rows-change}
 use Rattle.rows.specs.Item.{items}
-use Rattle.rows.specs.Views.{Body, bodyOf, linksOf}
+use Rattle.rows.specs.Views.{bodyOf, linksOf}
 use Rattle.rules.specs.Atlas.{Item, Freed, Pool}
-use Rattle.rules.specs.Lies.{item, free, noLinks, liveRows, freeRows}
+use Rattle.rules.specs.Lies.{item, free, noLinks, liveRows}
 use Rattle.rules.specs.Keeps.{itemRows}
 use Rattle.steps.specs.ItemEdits.{markLive, markFree}
 use Rattle.opening.proofs.Views.{sights, bodyMark}

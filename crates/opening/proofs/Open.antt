@@ -4,20 +4,20 @@ use Prim.Native.Nat.{ℕ, _<_, _≤_}
 use mathlib.Core.Path.{_≡_, refl, sym, ap, _∙_}
 use mathlib.Core.Logic.{_≢_, _⊎_, inl, inr, ⊎-elim}
 use mathlib.Core.Bool.{true}
-use mathlib.Core.List.{List, [], _∷_, _++_, List·Memᴰ·head, List·Memᴰ·tail, List·Memᴰ·cases-cons, Memᴰ·cast, Memᴰ·append-left, Memᴰ·append-right}
+use mathlib.Core.List.{List, [], _∷_, _++_, List·Memᴰ·tail, List·Memᴰ·cases-cons, Memᴰ·cast, Memᴰ·append-left, Memᴰ·append-right}
 use native.Mathlib.Omega.{arith}
 use lib.Dec.{ltb}
 use borrow.Author.Tests.{lt-ltb}
 use Rattle.numbers.specs.Index.{noRow}
 use Rattle.chains.specs.Lists.{_∈_, Distinct, gather, back-onto}
-use Rattle.chains.specs.Chain.{firstRow, firstOf, Chain}
+use Rattle.chains.specs.Chain.{firstOf, Chain}
 use Rattle.chains.proofs.Lists.{not-out, distinct-left, distinct-apart}
 use Rattle.chains.proofs.Chains.{onto-apart, apart-onto, in-onto, onto-in, chain-split, chain-frame, relink-after, ne-first}
 use Rattle.chains.proofs.Changes.{chain-swap, chain-remove}
 use Rattle.rows.specs.Row.{rows, get, rows-few}
 use Rattle.rows.specs.Change.{change, rows-change}
 use Rattle.rows.specs.Item.{items, withPrevFree, withNextFree}
-use Rattle.rows.specs.Views.{Links, bodyOf, linksOf}
+use Rattle.rows.specs.Views.{bodyOf, linksOf}
 use Rattle.rules.specs.Atlas.{Item, Freed, Pool}
 use Rattle.rules.specs.Lies.{item, free, noLinks, liveRows, freeRows, freedItem}
 use Rattle.rules.specs.Keeps.{itemRows, freedRows, Shared}

@@ -3,13 +3,13 @@ use Prim.Native.Nat.{ℕ, _<_, _≤_, _+_, _-_}
 use mathlib.Core.Path.{_≡_, refl, sym, ap, _∙_}
 use mathlib.Core.Logic.{_≢_, _⊎_, inl, inr, ⊎-elim}
 use mathlib.Core.Bool.{true, false}
-use mathlib.Core.List.{List, [], _∷_, _++_, List·Memᴰ·head, List·Memᴰ·tail, List·Memᴰ·append-cases, Memᴰ·cast, Memᴰ·append-left, Memᴰ·append-right}
+use mathlib.Core.List.{List, _∷_, _++_, List·Memᴰ·tail, List·Memᴰ·append-cases, Memᴰ·cast, Memᴰ·append-left, Memᴰ·append-right}
 use native.Mathlib.Omega.{arith}
 use lib.Dec.{ltb}
 use borrow.Author.Tests.{lt-ltb}
 use Rattle.numbers.specs.Index.{noRow}
 use Rattle.chains.specs.Lists.{_∈_, Distinct, gather, back-onto}
-use Rattle.chains.specs.Chain.{firstRow, Chain}
+use Rattle.chains.specs.Chain.{firstRow}
 use Rattle.chains.proofs.Lists.{not-out, distinct-append, distinct-right, distinct-apart}
 use Rattle.chains.proofs.Chains.{in-onto, onto-map, chain-frame, ne-first}
 use Rattle.chains.proofs.Changes.{chain-insert, rows-insert}
@@ -17,19 +17,19 @@ use Rattle.rows.specs.Row.{rows, get, put, rows-few, rows-put}
 use Rattle.rows.specs.Change.{change, rows-change}
 use Rattle.rows.specs.Item.{items, withItemPrev, withGeneration}
 use Rattle.rows.specs.Pool.{addItem, freedItemRow}
-use Rattle.rows.specs.Views.{Body, bodyOf, linksOf}
+use Rattle.rows.specs.Views.{bodyOf, linksOf}
 use Rattle.rows.specs.declared.header.Header.{Header}
 use Rattle.rules.specs.Atlas.{Item, Freed, Pool}
 use Rattle.rules.specs.Grant.{newRow, newGeneration, taken, rowsLeft}
-use Rattle.rules.specs.Lies.{item, free, liveRows, freeRows, freedItem}
+use Rattle.rules.specs.Lies.{item, free, liveRows, freedItem}
 use Rattle.rules.specs.Keeps.{itemRows, freedRows, Shared}
-use Rattle.steps.specs.Wrap.{plus16, minus16, plus16-is, minus16-is}
+use Rattle.steps.specs.Wrap.{plus16-is, minus16-is}
 use Rattle.steps.specs.Live.{atRow}
 use Rattle.steps.specs.ItemEdits.{withSpan, restOf, splitItem}
 use Rattle.opening.proofs.Views.{sights, bodyPrev, bodySpan, bodyRest, seen-next}
 use Rattle.opening.proofs.Frames.{live-row}
 use Rattle.opening.proofs.Taking.{freedRow, Fresh, fresh, taken-shared, taken-chain, item-new, item-generation}
-use Rattle.opening.proofs.Open.{Open, once, there, some, used-some, listed, listed-row}
+use Rattle.opening.proofs.Open.{Open, once, there, some, used-some, listed-row}
 use Rattle.opening.proofs.Marks.{liveOf, freeOf, rowOf, at-in, body-is}
 
 module _ {I₀ I : List ℕ} {on : ℕ} {fl : List ℕ} {p : Pool Freed} {others : List ℕ} (ib : List Item) (i : Item) (ia : List Item)

@@ -1,16 +1,16 @@
 -- A row taken out of a pool, of shelf rows or of item rows: it serves nowhere, it is there, the rows still freed are those that were freed
 -- but it, and it is the row that the header and the table name. A row given back. Assumes nothing.
 use Prim.Native.Nat.{ℕ, _<_, _≤_, _+_, _-_}
-use mathlib.Core.Path.{_≡_, refl, sym, ap, _∙_}
+use mathlib.Core.Path.{_≡_, refl, ap, _∙_}
 use mathlib.Core.Logic.{_≢_, _⊎_, inl, inr, ⊎-elim}
 use mathlib.Core.List.{List, [], _∷_, List·Memᴰ·head, List·Memᴰ·tail, List·Memᴰ·not-nil, List·Memᴰ·cases-cons}
 use native.Mathlib.Decide.{ℕ-discrete}
 use native.Mathlib.Omega.{arith}
 use lib.ListN.{length}
-use borrow.Author.Tests.{eq-eqb, ne-eqb}
+use borrow.Author.Tests.{ne-eqb}
 use Rattle.numbers.specs.Index.{noRow}
 use Rattle.chains.specs.Lists.{_∈_, Distinct, gather}
-use Rattle.chains.specs.Chain.{Kind, firstRow, firstOf, Chain}
+use Rattle.chains.specs.Chain.{firstRow, firstOf, Chain}
 use Rattle.chains.proofs.Lists.{not-out}
 use Rattle.chains.proofs.Chains.{chain-any, self}
 use Rattle.rows.specs.Row.{rows, get, rows-few}

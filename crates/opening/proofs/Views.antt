@@ -6,7 +6,7 @@ use mathlib.Core.List.{List}
 use Rattle.numbers.specs.Index.{noRow}
 use Rattle.numbers.specs.declared.index.ItemIndex.{ItemIndex}
 use Rattle.numbers.specs.declared.index.ShelfIndex.{ShelfIndex}
-use Rattle.rows.specs.Row.{rows, get, put, rows-put, get-put-other}
+use Rattle.rows.specs.Row.{rows, get, rows-put, get-put-other}
 use Rattle.rows.specs.Change.{change, rows-change, get-change-other, get-put-there, get-change-there, unseen}
 use Rattle.rows.specs.Item.{items, withItemX, withWidth, withItemPrev, withItemNext, withPrevFree, withNextFree, withShelf, withAllocated, withGeneration}
 use Rattle.rows.specs.Views.{Body, Links, bodyOf, linksOf}
