@@ -24,11 +24,12 @@ use Rattle.rules.specs.Atlas.{Item, Shelf, Freed, Pool, Atlas, isEmpty, occupie
 use Rattle.rules.specs.Grant.{holding}
 use Rattle.rules.specs.Lies.{shelf, item, free, freedShelf, flag, Holds, Lies, headerOf, roomIn}
 use Rattle.rules.specs.Keeps.{shelfRows, itemRows, allItemRows, Sound, FreeListed, Shared}
+use Rattle.steps.specs.State.{State, state}
 use Rattle.steps.specs.ShelfEdits.{withFree}
 use Rattle.opening.proofs.Views.{reads}
 use Rattle.opening.proofs.Frames.{each-holds}
-use Rattle.opening.proofs.Taking.{freedRow}
-use Rattle.opening.proofs.Standing.{used-items, used-shelves}
+use Rattle.opening.proofs.Taking.{withPool}
+use Rattle.opening.proofs.Standing.{Stands, used-items, used-shelves}
 use Rattle.opening.proofs.Open.{Open}
 
 -- ---- the rows that serve, in two orders
@@ -84,16 +85,21 @@ module _ (bs : List Shelf) (s : Shelf) (ys : List Shelf) where
 abbrev pub reshelved : Atlas → List Shelf → Shelf → List Shelf → Pool Freed → Atlas
 reshelved a bs s ys p = record { limits = a .limits; shelves = back-onto bs (s ∷ ys); rows = record { shelves = a .rows .shelves; items = p } }
 
-module _ (h : Header) (S I : List ℕ) (a : Atlas) (bs : List Shelf) (s : Shelf) (ys : List Shelf)
-    (are : a .shelves ≡ back-onto bs (s ∷ ys)) (sound : Sound (roomIn S I) a) (lies : Lies h S I a) where
+module _ (st : State) (a : Atlas) (bs : List Shelf) (s : Shelf) (ys : List Shelf) (are : a .shelves ≡ back-onto bs (s ∷ ys)) (stands : Stands st a) where
+  abbrev S : List ℕ
+  S = st .shelves
+
+  abbrev I : List ℕ
+  I = st .items
+
   abbrev others : List ℕ
   others = allItemRows bs ++ allItemRows ys
 
   held : Each (Holds I) bs × Each (Holds I) (s ∷ ys)
-  held = each-split (Holds I) bs (s ∷ ys) (rw are at (lies .shelf-items))
+  held = each-split (Holds I) bs (s ∷ ys) (rw are at (stands .lies .shelf-items))
 
   listings : Each FreeListed bs × Each FreeListed (s ∷ ys)
-  listings = each-split FreeListed bs (s ∷ ys) (rw are at (sound .free-listed))
+  listings = each-split FreeListed bs (s ∷ ys) (rw are at (stands .sound .free-listed))
 
   pub open-shelf : Open I I (s .row) (s .items) (s .free) (a .rows .items) others
   open-shelf = record {
@@ -102,52 +108,58 @@ module _ (h : Header) (S I : List ℕ) (a : Atlas) (bs : List Shelf) (s : Shelf)
     live = held .1 .0 .live-unlinked;
     free-once = rw self (listings .1 .0 .once);
     only = λ r m. listings .1 .0 .only r (rw self at m);
-    freed = lies .freed-items;
-    shared = shared-same (itemRows (s .items) ++ others) (once-chain bs s ys (rw are at (sound .item-rows .serving-once)))
-        (λ r m. rw are (to-chain bs s ys r m)) (λ r m. from-chain bs s ys r (rw are at m)) (sound .item-rows);
-    room = used-items S I a sound;
+    freed = stands .lies .freed-items;
+    shared = shared-same (itemRows (s .items) ++ others) (once-chain bs s ys (rw are at (stands .sound .item-rows .serving-once)))
+        (λ r m. rw are (to-chain bs s ys r m)) (λ r m. from-chain bs s ys r (rw are at m)) (stands .sound .item-rows);
+    room = used-items st a stands;
     same = λ r m. refl;
   }
 
-  pub s-in : s .row ∈ shelfRows (a .shelves)
+  s-in : s .row ∈ shelfRows (a .shelves)
   s-in = rw are (in-onto (λ (q : Shelf). q .row ∷ []) (s .row) bs (s ∷ ys) (inr (List·Memᴰ·head refl)))
 
-  pub s-there : ltb (s .row) (rows shelves S) ≡ true
-  s-there = lt-ltb (s .row) (rows shelves S) (omega (arith, sound .shelf-rows .serving-used (s .row) s-in, used-shelves S I a sound))
+  -- the shelf's row is there
+  pub shelf-there : ltb (s .row) (rows shelves S) ≡ true
+  shelf-there = lt-ltb (s .row) (rows shelves S) (omega (arith, stands .sound .shelf-rows .serving-used (s .row) s-in, used-shelves st a stands))
 
   module _ (I′ : List ℕ) (is : List Item) (fl : List ℕ) (p : Pool Freed) (o : Open I I′ (s .row) is fl p others)
       (first : firstRow (item (s .row) .row) is ≡ firstRow (item (s .row) .row) (s .items))
       (f : ItemIndex) (e : ℕ) (f-is : f .0 ≡ firstOf fl) (e-is : e ≡ flag (isEmpty is)) where
-    pub close-lies : (h′ : Header) → h′ ≡ headerOf (reshelved a bs (holding s is fl) ys p)
-        → Lies h′ (change shelves S (s .row) (withFree f e)) I′ (reshelved a bs (holding s is fl) ys p)
+    close-lies : (h : Header) → h ≡ headerOf (reshelved a bs (holding s is fl) ys p)
+        → Lies h (change shelves S (s .row) (withFree f e)) I′ (reshelved a bs (holding s is fl) ys p)
     unfolding holding withFree withFirstFree withEmpty
-    close-lies h′ eq = record {
+    close-lies h eq = record {
       header = eq;
       shelf-chain = chain-replace shelf (get shelves S) (get shelves (change shelves S (s .row) (withFree f e))) bs s (holding s is fl) ys refl
-          (rw are at (sound .shelf-rows .serving-once)) (λ r m n. simp reads)
-          (λ c. simp (reads, s-there) (rw c (cc (first, f-is, e-is)))) (rw are at (lies .shelf-chain));
+          (rw are at (stands .sound .shelf-rows .serving-once)) (λ r m n. simp reads)
+          (λ c. simp (reads, shelf-there) (rw c (cc (first, f-is, e-is)))) (rw are at (stands .lies .shelf-chain));
       shelf-items = each-join (Holds I′) bs (holding s is fl ∷ ys)
           (each-holds I I′ bs (listings .0) (λ r m. o .same r (Memᴰ·append-left (allItemRows ys) m)) (held .0)) (
             record { in-order = o .lie; free-order = o .list; live-unlinked = o .live },
             each-holds I I′ ys (listings .1 .1) (λ r m. o .same r (Memᴰ·append-right (allItemRows bs) m)) (held .1 .1),
           );
       freed-shelves = chain-frame freedShelf (get shelves S) (get shelves (change shelves S (s .row) (withFree f e))) noRow (a .rows .shelves .freed)
-          (λ r m. let n : r ≢ s .row = (λ q. sound .shelf-rows .freed-exactly r .0 (rw self at m) .1 (Memᴰ·cast q s-in)) in simp reads) (lies .freed-shelves);
+          (λ r m. let n : r ≢ s .row = (λ q. stands .sound .shelf-rows .freed-exactly r .0 (rw self at m) .1 (Memᴰ·cast q s-in)) in simp reads) (stands .lies .freed-shelves);
       freed-items = o .freed;
     }
 
-    pub close-sound : Sound (roomIn (change shelves S (s .row) (withFree f e)) I′) (reshelved a bs (holding s is fl) ys p)
+    close-sound : Sound (roomIn (change shelves S (s .row) (withFree f e)) I′) (reshelved a bs (holding s is fl) ys p)
     unfolding roomIn holding
     close-sound = record {
-      in-room = record { shelves = simp rows-change (used-shelves S I a sound); items = o .room };
+      in-room = record { shelves = simp rows-change (used-shelves st a stands); items = o .room };
       free-listed = each-join FreeListed bs (holding s is fl ∷ ys) (listings .0) (record { once = rw self at (o .free-once); only = λ r m. o .only r (rw self m) }, listings .1 .1);
-      shelf-rows = rw (gather-onto (λ (q : Shelf). q .row ∷ []) bs (holding s is fl ∷ ys) (s ∷ ys) refl) (rw are at (sound .shelf-rows));
+      shelf-rows = rw (gather-onto (λ (q : Shelf). q .row ∷ []) bs (holding s is fl ∷ ys) (s ∷ ys) refl) (rw are at (stands .sound .shelf-rows));
       item-rows = shared-same (allItemRows (back-onto bs (holding s is fl ∷ ys))) (chain-once bs (holding s is fl) ys (o .shared .serving-once))
           (λ r m. from-chain bs (holding s is fl) ys r m) (λ r m. to-chain bs (holding s is fl) ys r m) (o .shared);
     }
 
+    -- the first free item and the empty flag are written into the shelf's row
+    pub close-stands : (h : Header) → h ≡ headerOf (reshelved a bs (holding s is fl) ys p)
+        → Stands (state h (change shelves S (s .row) (withFree f e)) I′) (reshelved a bs (holding s is fl) ys p)
+    close-stands h eq = record { lies = close-lies h eq; sound = close-sound }
+
   -- the header that goes with it: other item rows, and another sum
   pub close-header : (s′ : Shelf) (p : Pool Freed) (total : ℕ) → total ≡ occupied (back-onto bs (s′ ∷ ys))
-      → withOccupied total (withUsedItems (p .used) (withFreeItems (record { 0 = firstRow freedRow (p .freed) }) h)) ≡ headerOf (reshelved a bs s′ ys p)
+      → withOccupied total (withPool p (st .header)) ≡ headerOf (reshelved a bs s′ ys p)
   unfolding headerOf withOccupied withUsedItems withFreeItems
-  close-header s′ p total sum = cc (lies .header, sum)
+  close-header s′ p total sum = cc (stands .lies .header, sum)

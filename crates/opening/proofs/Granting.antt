@@ -22,7 +22,7 @@ use Rattle.rows.specs.declared.header.Header.{Header}
 use Rattle.rows.specs.declared.shelf.ShelfRow.{ShelfRow}
 use Rattle.rules.specs.Atlas.{Item, Shelf, Freed, Pool, Atlas, isEmpty, liveArea, occupied}
 use Rattle.rules.specs.Grant.{taken, rowsLeft, newItemRow, itemTaken as itemRowTaken, granted, rest-of, replaceRow, holding, grantWhole, grantPart}
-use Rattle.rules.specs.Lies.{shelf, item, flag, Lies, headerOf, roomIn}
+use Rattle.rules.specs.Lies.{shelf, item, flag, headerOf, roomIn}
 use Rattle.rules.specs.Keeps.{allItemRows}
 use Rattle.steps.specs.Wrap.{plus32, plus32-is}
 use Rattle.steps.specs.State.{State}
@@ -33,11 +33,11 @@ use Rattle.steps.specs.Grant.{useShelf, takePartItems, takePart, takeWholeItems
 use Rattle.opening.proofs.Views.{reads, seen-nextFree, seen-width, seen-shelf}
 use Rattle.opening.proofs.Frames.{area-onto, occupied-onto, live-free, not-empty, replace-at, first-listed}
 use Rattle.opening.proofs.Standing.{Stands, onRow, used-items, shelf-says, widths, NarrowShelf, area-within}
-use Rattle.opening.proofs.Taking.{freedRow, item-new, item-header}
+use Rattle.opening.proofs.Taking.{freedRow, withPool, item-new, item-header}
 use Rattle.opening.proofs.Open.{Open, once, links-are}
 use Rattle.opening.proofs.Marks.{liveOf, body-is}
 use Rattle.opening.proofs.Moves.{whole-open, part-open}
-use Rattle.opening.proofs.Close.{reshelved, open-shelf, s-there, close-lies, close-sound, close-header}
+use Rattle.opening.proofs.Close.{reshelved, open-shelf, shelf-there, close-stands, close-header}
 
 -- the area of an item of an opened shelf, as the code reads it
 pub area-is : {I₀ I : List ℕ} {on : ℕ} {fl : List ℕ} {p : Pool Freed} {others : List ℕ} (ib : List Item) (i : Item) (ia : List Item)
@@ -69,7 +69,7 @@ module _ (st : State) (a : Atlas) (f : Focus Shelf) (w : Focus Item)
   others = allItemRows (f .before) ++ allItemRows (f .after)
 
   o : Open I I (s .row) (back-onto (w .before) (i ∷ w .after)) (back-onto fb (i .row ∷ fa)) (a .rows .items) others
-  o = rw (items-are, free-are) at (open-shelf h S I a (f .before) s (f .after) shelves-are (stands .sound) (stands .lies))
+  o = rw (items-are, free-are) at (open-shelf st a (f .before) s (f .after) shelves-are stands)
 
   was-free : i .live ≡ false
   was-free = go (i .live) refl where
@@ -90,7 +90,7 @@ module _ (st : State) (a : Atlas) (f : Focus Shelf) (w : Focus Item)
   unfolding firstAfter
   named new fa′ e =
       let q : get shelves S (s .row) .«first_unallocated» ≡ atRow (firstOf (back-onto fb (i .row ∷ fa))) =
-      ap (λ (v : ShelfRow). v .«first_unallocated») (shelf-says h S I a (f .before) s (f .after) shelves-are (stands .lies)) ∙ ap (λ (l : List ℕ). atRow (firstOf l)) free-are in
+      ap (λ (v : ShelfRow). v .«first_unallocated») (shelf-says st a stands (f .before) s (f .after) shelves-are) ∙ ap (λ (l : List ℕ). atRow (firstOf l)) free-are in
       rw q (pick-ap (λ (k : ItemIndex). k .0) (eqb (firstOf (back-onto fb (i .row ∷ fa))) (i .row)) new (atRow (firstOf (back-onto fb (i .row ∷ fa)))) ∙ first-listed fb (i .row) (new .0) fa fa′ listed-once e)
 
   -- so much more is occupied
@@ -130,9 +130,9 @@ module _ (st : State) (a : Atlas) (f : Focus Shelf) (w : Focus Item)
         → plus32 (h .occupied) (areaAt (change shelves S (s .row) (withFree first 0)) I′ (atRow (i .row))) ≡ h .occupied + width * s .depth
     unfolding headerOf granted withFree withFirstFree withEmpty
     added fits I′ first o′ =
-        let says : get shelves S (s .row) .height ≡ s .depth = ap (λ (v : ShelfRow). v .height) (shelf-says h S I a (f .before) s (f .after) shelves-are (stands .lies)) in
+        let says : get shelves S (s .row) .height ≡ s .depth = ap (λ (v : ShelfRow). v .height) (shelf-says st a stands (f .before) s (f .after) shelves-are) in
         let deep : get shelves (change shelves S (s .row) (withFree first 0)) (s .row) .height ≡ s .depth =
-        simp (reads, s-there h S I a (f .before) s (f .after) shelves-are (stands .sound) (stands .lies)) says in
+        simp (reads, shelf-there st a (f .before) s (f .after) shelves-are stands) says in
         let small : width * s .depth ≤ 2147483647 =
         omega (arith, mul-le-mul-right (s .depth) fits, area-within (s .depth) (w .before) i (w .after), ap (λ (l : List Item). widths l * s .depth) items-are, narrow .area) in
         let before : h .occupied ≡ occupied (a .shelves) = ap (λ (q : Header). q .occupied) (stands .lies .header) in
@@ -145,24 +145,20 @@ module _ (st : State) (a : Atlas) (f : Focus Shelf) (w : Focus Item)
       → liveArea (s .depth) us ≡ liveArea (s .depth) (w .after)
       → first .0 ≡ firstOf fl
       → st₁ .shelves ≡ change shelves S (s .row) (withFree first 0)
-      → st₁ .header ≡ withUsedItems (p .used) (withFreeItems (record { 0 = firstRow freedRow (p .freed) }) h)
+      → st₁ .header ≡ withPool p h
       → Stands (occupy st₁ (atRow (i .row))) (reshelved a (f .before) (holding s (back-onto (w .before) (granted i width ∷ us)) fl) (f .after) p)
   unfolding occupy areaAt withUsedItems withFreeItems
   grant-stands width us fl p st₁ first fits o′ eu fe es eh =
       let is : List Item = back-onto (w .before) (granted i width ∷ us) in
-      let lies : (h′ : Header) → h′ ≡ headerOf (reshelved a (f .before) (holding s is fl) (f .after) p) → Lies h′ (change shelves S (s .row) (withFree first 0)) (st₁ .items) (reshelved a (f .before) (holding s is fl) (f .after) p) =
-      close-lies h S I a (f .before) s (f .after) shelves-are (stands .sound) (stands .lies) (st₁ .items) is fl p o′ (first-is width us) first 0 fe (in-use width us) in
-      record {
-        lies = rw (es, eh) (lies _
-            (ap (λ (n : ℕ). withOccupied n (withUsedItems (p .used) (withFreeItems (record { 0 = firstRow freedRow (p .freed) }) h))) (added width us fits (st₁ .items) first o′)
-            ∙ close-header h S I a (f .before) s (f .after) shelves-are (stands .sound) (stands .lies) (holding s is fl) p (h .occupied + width * s .depth) (total-is width us fl eu)));
-        sound = rw es (close-sound h S I a (f .before) s (f .after) shelves-are (stands .sound) (stands .lies) (st₁ .items) is fl p o′ (first-is width us) first 0 fe (in-use width us));
-      }
+      rw (es, eh)
+      (close-stands st a (f .before) s (f .after) shelves-are stands (st₁ .items) is fl p o′ (first-is width us) first 0 fe (in-use width us) _
+      (ap (λ (n : ℕ). withOccupied n (withPool p h)) (added width us fits (st₁ .items) first o′)
+      ∙ close-header st a (f .before) s (f .after) shelves-are stands (holding s is fl) p (h .occupied + width * s .depth) (total-is width us fl eu)))
 
   -- ---- the whole item
 
   -- the header as it is, by the pool that it names
-  same-header : h ≡ withUsedItems (a .rows .items .used) (withFreeItems (record { 0 = firstRow freedRow (a .rows .items .freed) }) h)
+  same-header : h ≡ withPool (a .rows .items) h
   unfolding headerOf withUsedItems withFreeItems
   same-header = cc (stands .lies .header)
 
@@ -195,7 +191,7 @@ module _ (st : State) (a : Atlas) (f : Focus Shelf) (w : Focus Item)
 
     new-is : newItem h .0 ≡ newItemRow (a .rows)
     unfolding newItemRow
-    new-is = ap (λ (k : ItemIndex). k .0) (item-new I h (allItemRows (a .shelves)) (a .rows .items) head used (used-items S I a (stands .sound)) left′ (stands .sound .item-rows) (stands .lies .freed-items))
+    new-is = ap (λ (k : ItemIndex). k .0) (item-new I h (allItemRows (a .shelves)) (a .rows .items) head used (used-items st a stands) left′ (stands .sound .item-rows) (stands .lies .freed-items))
 
     rest-free : liveArea (s .depth) (rest-of (a .rows) i width ∷ w .after) ≡ liveArea (s .depth) (w .after)
     unfolding liveArea rest-of
@@ -209,4 +205,4 @@ module _ (st : State) (a : Atlas) (f : Focus Shelf) (w : Focus Item)
         (firstAfter (get shelves S (s .row) .«first_unallocated») (atRow (i .row)) (newItem h)) within
         (rw (cut (newItemRow (a .rows) ∷ [])) (part-open (a .rows) (w .before) i (w .after) fb fa o h head used left′ width within span)) rest-free
         (rw (cut (newItemRow (a .rows) ∷ [])) (named (newItem h) (newItemRow (a .rows) ∷ fa) new-is)) refl
-        (item-header I h (allItemRows (a .shelves)) (a .rows .items) head used (used-items S I a (stands .sound)) left′ (stands .sound .item-rows) (stands .lies .freed-items))
+        (item-header I h (allItemRows (a .shelves)) (a .rows .items) head used (used-items st a stands) left′ (stands .sound .item-rows) (stands .lies .freed-items))

@@ -30,7 +30,7 @@ use Rattle.steps.specs.Release.{Loose as Loosened, isFreeItem, absorbNext, merg
 use Rattle.opening.proofs.Views.{seen-prev, seen-next, seen-allocated, seen-nextFree}
 use Rattle.opening.proofs.Frames.{focus-of, replace-at, first-listed}
 use Rattle.opening.proofs.Standing.{widths, widths-onto}
-use Rattle.opening.proofs.Taking.{freedRow}
+use Rattle.opening.proofs.Taking.{freedRow, withPool}
 use Rattle.opening.proofs.Open.{Open, some, listed, links-are}
 use Rattle.opening.proofs.Marks.{freeOf, at-in, body-is}
 use Rattle.opening.proofs.Moves.{freed-open, push-open, next-open, into-open}
@@ -41,10 +41,6 @@ chosen-yes P b x y e p = rw e p
 
 pub chosen-no : {X : Type 0} (P : X → Type 0) (b : Bool) (x y : X) → b ≡ false → P y → P (pick b x y)
 chosen-no P b x y e p = rw e p
-
--- the header with the item rows of a pool
-abbrev pub withPool : Pool Freed → Header → Header
-withPool p h = withUsedItems (p .used) (withFreeItems (record { 0 = firstRow freedRow (p .freed) }) h)
 
 -- the state of the steps is the state of the rules; all else of the header is as in h₀
 pub record Loosely (I₀ : List ℕ) (h₀ : Header) (on : ℕ) (others : List ℕ) (m : Loose) (c : Loosened) : Type 0 where

@@ -36,7 +36,7 @@ module _ (st : State) (a : Atlas) (f : Focus Shelf) (w : Focus Item)
     (shelves-are : a .shelves ≡ back-onto (f .before) (f .this ∷ f .after))
     (items-are : f .this .items ≡ back-onto (w .before) (w .this ∷ w .after)) (stands : Stands st a) where
   o : Open (st .items) (st .items) (f .this .row) (back-onto (w .before) (w .this ∷ w .after)) (f .this .free) (a .rows .items) (allItemRows (f .before) ++ allItemRows (f .after))
-  o = rw items-are at (open-shelf (st .header) (st .shelves) (st .items) a (f .before) (f .this) (f .after) shelves-are (stands .sound) (stands .lies))
+  o = rw items-are at (open-shelf st a (f .before) (f .this) (f .after) shelves-are stands)
 
   -- its row names the shelf
   pub names-shelf : get items (st .items) (w .this .row) .shelf ≡ onRow (f .this .row)

@@ -35,11 +35,12 @@ use Rattle.steps.specs.Release.{Loose as Loosened, isFreeItem, absorbNext, merg
 use Rattle.opening.proofs.Views.{seen-next, seen-allocated}
 use Rattle.opening.proofs.Frames.{area-onto, occupied-onto, live-free}
 use Rattle.opening.proofs.Standing.{Stands, onRow, shelf-says, widths, NarrowShelf}
+use Rattle.opening.proofs.Taking.{withPool}
 use Rattle.opening.proofs.Open.{Open, once, some}
 use Rattle.opening.proofs.Marks.{liveOf, at-in, body-is}
-use Rattle.opening.proofs.Close.{reshelved, open-shelf, close-lies, close-sound, close-header}
+use Rattle.opening.proofs.Close.{reshelved, open-shelf, close-stands, close-header}
 use Rattle.opening.proofs.Granting.{area-is}
-use Rattle.opening.proofs.Loosening.{Loosely, withPool, marked, next-merged, into-merged}
+use Rattle.opening.proofs.Loosening.{Loosely, marked, next-merged, into-merged}
 use Rattle.opening.proofs.Steady.{itemsOf, Steady, Between, next-between, next-steady, into-steady}
 
 -- the flag that the code writes: one item is left, and it is free
@@ -132,10 +133,10 @@ module _ (st : State) (a : Atlas) (w : Found)
   c₂ = intoMerged c₁ (atRow (i .row))
 
   o : Open I I (s .row) (back-onto (w .item .before) (i ∷ w .item .after)) (s .free) (a .rows .items) others
-  o = rw items-are at (open-shelf h S I a bs s ys shelves-are (stands .sound) (stands .lies))
+  o = rw items-are at (open-shelf st a bs s ys shelves-are stands)
 
   says : get shelves S (s .row) ≡ shelf .says (firstRow (shelf .row) bs) s (firstRow (shelf .row) ys)
-  says = shelf-says h S I a bs s ys shelves-are (stands .lies)
+  says = shelf-says st a stands bs s ys shelves-are
 
   between : Between (i .row) m₁
   between =
@@ -205,7 +206,7 @@ module _ (st : State) (a : Atlas) (w : Found)
 
   header-is : c₂ .header ≡ headerOf (reshelved a bs (holding s (itemsOf m₂) (m₂ .free)) ys (m₂ .rows .items))
   unfolding withOccupied withUsedItems withFreeItems
-  header-is = loosely .header ∙ close-header h S I a bs s ys shelves-are (stands .sound) (stands .lies) (holding s (itemsOf m₂) (m₂ .free)) (m₂ .rows .items) (h .occupied - i .width * s .depth) less
+  header-is = loosely .header ∙ close-header st a bs s ys shelves-are stands (holding s (itemsOf m₂) (m₂ .free)) (m₂ .rows .items) (h .occupied - i .width * s .depth) less
 
   -- the atlas with the item loosened
   abbrev pub a′ : Atlas
@@ -217,7 +218,5 @@ module _ (st : State) (a : Atlas) (w : Found)
   pub release-stands : Stands (releaseItem st (onRow (s .row)) (atRow (i .row))) a′
   release-stands =
       let f : c₂ .first .0 ≡ firstOf (m₂ .free) = ap (λ (k : ItemIndex). k .0) (loosely .first) in
-      rw (release-step st (s .row) (i .row), loosened-is, ← rows-are) (record {
-        lies = close-lies h S I a bs s ys shelves-are (stands .sound) (stands .lies) (c₂ .items) (itemsOf m₂) (m₂ .free) (m₂ .rows .items) (loosely .open-at) (steady .first-item) (c₂ .first) _ f emptied (c₂ .header) header-is;
-        sound = close-sound h S I a bs s ys shelves-are (stands .sound) (stands .lies) (c₂ .items) (itemsOf m₂) (m₂ .free) (m₂ .rows .items) (loosely .open-at) (steady .first-item) (c₂ .first) _ f emptied;
-      })
+      rw (release-step st (s .row) (i .row), loosened-is, ← rows-are)
+      (close-stands st a bs s ys shelves-are stands (c₂ .items) (itemsOf m₂) (m₂ .free) (m₂ .rows .items) (loosely .open-at) (steady .first-item) (c₂ .first) _ f emptied (c₂ .header) header-is)

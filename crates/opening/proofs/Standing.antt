@@ -12,7 +12,6 @@ use Rattle.chains.proofs.Chains.{chain-split}
 use Rattle.rows.specs.Row.{rows, get}
 use Rattle.rows.specs.Item.{items}
 use Rattle.rows.specs.Shelf.{shelves}
-use Rattle.rows.specs.declared.header.Header.{Header}
 use Rattle.rules.specs.Atlas.{Item, Shelf, Atlas, occupied}
 use Rattle.rules.specs.Lies.{shelf, Lies, roomIn}
 use Rattle.rules.specs.Keeps.{Sound}
@@ -25,18 +24,19 @@ pub record Stands (st : State) (a : Atlas) : Type 0 where
 abbrev pub onRow : ℕ → ShelfIndex
 onRow r = record { 0 = r }
 
-pub used-items : (S I : List ℕ) (a : Atlas) → Sound (roomIn S I) a → a .rows .items .used ≤ rows items I
-unfolding roomIn
-used-items S I a sound = sound .in-room .items
+module _ (st : State) (a : Atlas) (stands : Stands st a) where
+  pub used-items : a .rows .items .used ≤ rows items (st .items)
+  unfolding roomIn
+  used-items = stands .sound .in-room .items
 
-pub used-shelves : (S I : List ℕ) (a : Atlas) → Sound (roomIn S I) a → a .rows .shelves .used ≤ rows shelves S
-unfolding roomIn
-used-shelves S I a sound = sound .in-room .shelves
+  pub used-shelves : a .rows .shelves .used ≤ rows shelves (st .shelves)
+  unfolding roomIn
+  used-shelves = stands .sound .in-room .shelves
 
--- what the row of a shelf says
-pub shelf-says : (h : Header) (S I : List ℕ) (a : Atlas) (bs : List Shelf) (s : Shelf) (ys : List Shelf) → a .shelves ≡ back-onto bs (s ∷ ys) → Lies h S I a
-    → get shelves S (s .row) ≡ shelf .says (firstRow (shelf .row) bs) s (firstRow (shelf .row) ys)
-shelf-says h S I a bs s ys are lies = chain-split shelf (get shelves S) bs (s ∷ ys) (rw are at (lies .shelf-chain)) .1 .0
+  -- what the row of a shelf says
+  pub shelf-says : (bs : List Shelf) (s : Shelf) (ys : List Shelf) → a .shelves ≡ back-onto bs (s ∷ ys)
+      → get shelves (st .shelves) (s .row) ≡ shelf .says (firstRow (shelf .row) bs) s (firstRow (shelf .row) ys)
+  shelf-says bs s ys are = chain-split shelf (get shelves (st .shelves)) bs (s ∷ ys) (rw are at (stands .lies .shelf-chain)) .1 .0
 
 -- ---- what keeps sums from wrapping
 

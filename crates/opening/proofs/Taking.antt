@@ -140,6 +140,10 @@ freed-shared used serving serving′ freed x s m d to from = record {
 abbrev pub freedRow : Freed → ℕ
 freedRow f = f .row
 
+-- the header with the used rows and the head of a pool of item rows
+abbrev pub withPool : Pool Freed → Header → Header
+withPool p h = withUsedItems (p .used) (withFreeItems (record { 0 = firstRow freedRow (p .freed) }) h)
+
 module _ (I : List ℕ) (h : Header) (serving : List ℕ) (p : Pool Freed)
     (head : h .«free_items» .0 ≡ firstRow freedRow (p .freed)) (used : h .«used_items» ≡ p .used)
     (room : p .used ≤ rows items I) (left : 0 < rowsLeft (rows items I) p)
@@ -168,7 +172,7 @@ module _ (I : List ℕ) (h : Header) (serving : List ℕ) (p : Pool Freed)
     go (f ∷ fs) e c n = rw (e, ne-eqb (f .row) noRow (n (f .row) (List·Memᴰ·head refl)), c .0)
 
   -- the header that it leaves
-  pub item-header : itemTaken I h ≡ withUsedItems (taken p .used) (withFreeItems (record { 0 = firstRow freedRow (taken p .freed) }) h)
+  pub item-header : itemTaken I h ≡ withPool (taken p) h
   unfolding itemTaken
   item-header = rw (item-named .used-after, item-named .head-after)
 
