@@ -45,7 +45,7 @@ splitShelf st at depth =
     record {
       header = itemTaken (st .items) h;
       shelves = splitShelfTable (st .shelves) (st .header) at depth;
-      items = addItem (st .items) h (loneItem (shelfAt (st .shelves) at .x) (h .«shelf_width») (newShelf (st .header)));
+      items = addItem (st .items) h (loneItem (shelfAt (st .shelves) at .x) (st .header .«shelf_width») (newShelf (st .header)));
     }
 
 -- ---- the shelf in row `at` merged into `above`, which it follows: its item row is freed, then its shelf row

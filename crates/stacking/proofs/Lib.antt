@@ -1,0 +1,6 @@
+pub mod Past
+pub mod Used
+pub mod Leads
+pub mod Fresh
+pub mod Merge
+pub mod Merging
