@@ -4,3 +4,4 @@ pub mod Leads
 pub mod Fresh
 pub mod Merge
 pub mod Merging
+pub mod Split
