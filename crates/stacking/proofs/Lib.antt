@@ -4,4 +4,5 @@ pub mod Leads
 pub mod Fresh
 pub mod Merge
 pub mod Merging
+pub mod TakenRows
 pub mod Split

@@ -10,7 +10,7 @@ use borrow.Author.Tests.{lt-ltb}
 use Rattle.numbers.specs.Index.{noRow}
 use Rattle.numbers.specs.declared.index.ShelfIndex.{ShelfIndex}
 use Rattle.chains.specs.Lists.{_∈_, Each, back-onto}
-use Rattle.chains.specs.Chain.{firstRow, firstOf, Chain}
+use Rattle.chains.specs.Chain.{firstRow, Chain}
 use Rattle.chains.proofs.Lists.{not-out}
 use Rattle.chains.proofs.Chains.{in-onto, self, each-split, each-join, chain-frame, ne-first}
 use Rattle.chains.proofs.Changes.{chain-insert, rows-insert}
@@ -19,7 +19,7 @@ use Rattle.rows.specs.Change.{change, rows-change}
 use Rattle.rows.specs.Item.{items, withGeneration}
 use Rattle.rows.specs.Shelf.{shelves, withY, withHeight, withShelfPrev, withShelfNext, withFirstItem, withFirstFree, withEmpty}
 use Rattle.rows.specs.Header.{withUsedItems, withUsedShelves, withFreeItems, withFreeShelves}
-use Rattle.rows.specs.Pool.{newItem, addItem, newShelf, addShelf, freedItemRow, freedShelfRow, shelfTaken as shelfTakenAt, itemTaken as itemTakenAt}
+use Rattle.rows.specs.Pool.{addItem, newShelf, addShelf, freedItemRow, freedShelfRow, shelfTaken as shelfTakenAt}
 use Rattle.rows.specs.Views.{bodyOf, linksOf}
 use Rattle.rows.specs.declared.header.Header.{Header}
 use Rattle.rows.specs.declared.item.ItemRow.{ItemRow}
@@ -33,12 +33,13 @@ use Rattle.steps.specs.State.{State, state}
 use Rattle.steps.specs.ItemEdits.{loneItem}
 use Rattle.steps.specs.ShelfEdits.{withReach, lowerOf, splitShelfTable, splitShelf}
 use Rattle.opening.proofs.Views.{reads, bodyLone, body-loneItem, links-loneItem}
-use Rattle.opening.proofs.Standing.{Stands, onRow, used-shelves, used-items, shelf-says}
+use Rattle.opening.proofs.Standing.{Stands, onRow, shelf-says}
 use Rattle.opening.proofs.Frames.{holds-frame, each-holds, occupied-onto}
-use Rattle.opening.proofs.Taking.{shelfRow, freedRow, withPool, Fresh, fresh, taken-shared, taken-chain, item-new, item-generation, item-header, shelf-fresh, shelf-shared, shelf-new, shelf-header}
+use Rattle.opening.proofs.Taking.{shelfRow, freedRow, withPool, Fresh, taken-shared, taken-chain, shelf-shared}
 use Rattle.stacking.proofs.Past.{Past, past-same, past-put, past-change}
 use Rattle.stacking.proofs.Leads.{Leads}
-use Rattle.stacking.proofs.Used.{shelf-some, shelf-there, first-used}
+use Rattle.stacking.proofs.TakenRows.{withShelfPool, shelf-is-fresh, item-is-fresh, new-shelf, new-item, both-taken, item-added}
+use Rattle.stacking.proofs.Used.{shelf-width-is, shelf-some, shelf-there, first-used}
 
 module _ (st : State) (a : Atlas) (bs : List Shelf) (s : Shelf) (ys : List Shelf) (j : Item) (d : ℕ)
     (are : a .shelves ≡ back-onto bs (s ∷ ys)) (lone : s .items ≡ j ∷ []) (is-free : j .live ≡ false)
@@ -99,40 +100,13 @@ module _ (st : State) (a : Atlas) (bs : List Shelf) (s : Shelf) (ys : List Shelf
 
   -- ---- what the step reads
 
-  chain : Chain shelf (get shelves S) noRow (back-onto bs (s ∷ ys))
-  chain = rw are at (lies .shelf-chain)
-
   said : get shelves S (s .row) ≡ shelf .says (firstRow (shelf .row) bs) s next
   said = shelf-says st a stands bs s ys are
 
-  -- the header says where the pools begin, and how wide a shelf is
-  shelf-head : h .«free_shelves» .0 ≡ firstOf (ps .freed)
-  unfolding headerOf
-  shelf-head = ap (λ (q : Header). q .«free_shelves» .0) (lies .header)
-
-  shelf-used : h .«used_shelves» ≡ ps .used
-  unfolding headerOf
-  shelf-used = ap (λ (q : Header). q .«used_shelves») (lies .header)
-
-  item-head : h .«free_items» .0 ≡ firstRow freedRow (pi .freed)
-  unfolding headerOf
-  item-head = ap (λ (q : Header). q .«free_items» .0) (lies .header)
-
-  item-used : h .«used_items» ≡ pi .used
-  unfolding headerOf
-  item-used = ap (λ (q : Header). q .«used_items») (lies .header)
-
-  wide : h .«shelf_width» ≡ a .limits .«shelf_width»
-  unfolding headerOf
-  wide = ap (λ (q : Header). q .«shelf_width») (lies .header)
-
   -- ---- the step
 
-  abbrev h₁ : Header
-  h₁ = withUsedShelves (taken ps .used) (withFreeShelves (onRow (firstOf (taken ps .freed))) h)
-
   abbrev h′ : Header
-  h′ = withPool (taken pi) h₁
+  h′ = withPool (taken pi) (withShelfPool (taken ps) h)
 
   abbrev S′ : List ℕ
   S′ = change shelves (change shelves (put shelves S on (lowerOf (get shelves S (s .row)) (onRow (s .row)) d (record { 0 = at-new }))) (s .row) (withReach d (onRow on))) next (withShelfPrev (onRow on))
@@ -143,44 +117,26 @@ module _ (st : State) (a : Atlas) (bs : List Shelf) (s : Shelf) (ys : List Shelf
   abbrev I′ : List ℕ
   I′ = put items I at-new lone-row
 
-  new-shelf : newShelf h ≡ onRow on
-  new-shelf = shelf-new S h (shelfRows (a .shelves)) ps shelf-head shelf-used (used-shelves st a stands) shelf-left (sound .shelf-rows) (lies .freed-shelves)
-
-  new-item : newItem h ≡ record { 0 = at-new }
-  new-item = item-new I h (allItemRows (a .shelves)) pi item-head item-used (used-items st a stands) item-left (sound .item-rows) (lies .freed-items)
-
-  one-taken : shelfTakenAt S h ≡ h₁
-  one-taken = shelf-header S h (shelfRows (a .shelves)) ps shelf-head shelf-used (used-shelves st a stands) shelf-left (sound .shelf-rows) (lies .freed-shelves)
-
-  both-taken : itemTakenAt I h₁ ≡ h′
-  unfolding withUsedShelves withFreeShelves
-  both-taken = item-header I h₁ (allItemRows (a .shelves)) pi item-head item-used (used-items st a stands) item-left (sound .item-rows) (lies .freed-items)
-
-  item-added : addItem I h₁ (loneItem (s .x) (a .limits .«shelf_width») (onRow on)) ≡ I′
-  unfolding addItem withUsedShelves withFreeShelves
-  item-added =
-      rw (
-        item-new I h₁ (allItemRows (a .shelves)) pi item-head item-used (used-items st a stands) item-left (sound .item-rows) (lies .freed-items),
-        item-generation I h₁ (allItemRows (a .shelves)) pi item-head item-used (used-items st a stands) item-left (sound .item-rows) (lies .freed-items),
-      )
+  on-is : newShelf h ≡ onRow on
+  on-is = new-shelf st a stands shelf-left item-left
 
   shelf-added : splitShelfTable S h (onRow (s .row)) d ≡ S′
   unfolding splitShelfTable addShelf
-  shelf-added = rw (new-shelf, new-item, ap (λ (q : ShelfRow). q .next) said)
+  shelf-added = rw (on-is, new-item st a stands shelf-left item-left, ap (λ (q : ShelfRow). q .next) said)
 
-  added : addItem I (shelfTakenAt S h) (loneItem (get shelves S (s .row) .x) (h .«shelf_width») (newShelf h)) ≡ I′
-  added =
-      ap (λ (q : Header). addItem I q (loneItem (get shelves S (s .row) .x) (h .«shelf_width») (newShelf h))) one-taken
-      ∙ ap (λ (v : ShelfRow). addItem I h₁ (loneItem (v .x) (h .«shelf_width») (newShelf h))) said
-      ∙ ap (λ (w : ℕ). addItem I h₁ (loneItem (s .x) w (newShelf h))) wide
-      ∙ ap (λ (n : ShelfIndex). addItem I h₁ (loneItem (s .x) (a .limits .«shelf_width») n)) new-shelf
-      ∙ item-added
+  lone-added : addItem I (shelfTakenAt S h) (loneItem (get shelves S (s .row) .x) (h .«shelf_width») (newShelf h)) ≡ I′
+  lone-added =
+      item-added st a stands shelf-left item-left _
+      ∙ ap (λ (v : ShelfRow). added (loneItem (v .x) (h .«shelf_width») (newShelf h))) said
+      ∙ ap (λ (w : ℕ). added (loneItem (s .x) w (newShelf h))) (shelf-width-is st a stands)
+      ∙ ap (λ (n : ShelfIndex). added (loneItem (s .x) (a .limits .«shelf_width») n)) on-is
+    where
+      added : ItemRow → List ℕ
+      added v = put items I at-new (withGeneration (newGeneration pi) v)
 
   split-is : splitShelf st (onRow (s .row)) d ≡ state h′ S′ I′
   unfolding splitShelf
-  split-is =
-      let header : itemTakenAt I (shelfTakenAt S h) ≡ h′ = ap (itemTakenAt I) one-taken ∙ both-taken in
-      cc (header, shelf-added, added)
+  split-is = cc (both-taken st a stands shelf-left item-left, shelf-added, lone-added)
 
   -- ---- the shelf chain and the freed shelves
 
@@ -191,7 +147,7 @@ module _ (st : State) (a : Atlas) (bs : List Shelf) (s : Shelf) (ys : List Shelf
   s-in = serves (s .row) (inr (List·Memᴰ·head refl))
 
   sf : Fresh shelfRow (rows shelves S) (shelfRows (a .shelves)) ps
-  sf = shelf-fresh (rows shelves S) (shelfRows (a .shelves)) ps (used-shelves st a stands) shelf-left (sound .shelf-rows)
+  sf = shelf-is-fresh st a stands shelf-left item-left
 
   ne-new : (r : ℕ) → r ∈ shelfRows (a .shelves) → r ≢ on
   ne-new r m = not-out (sf .out) m
@@ -220,7 +176,7 @@ module _ (st : State) (a : Atlas) (bs : List Shelf) (s : Shelf) (ys : List Shelf
       (λ r m x y. let c : r ≢ on = ne-new r (rw are m) in simp reads)
       (λ r m x e. let c : r ≢ on = ne-new r (rw are m) in rw (← e) (simp (reads, shelf-there st a stands r (rw are m))))
       (λ c b. (simp (reads, shelf-there st a stands (s .row) s-in) (upper-says c), simp (reads, lt-ltb on (rows shelves S) (sf .there)) (lower-says c)))
-      chain
+      (rw are at (lies .shelf-chain))
 
   new-freed-shelves : Chain freedShelf (get shelves S′) noRow (taken ps .freed)
   new-freed-shelves =
@@ -237,7 +193,7 @@ module _ (st : State) (a : Atlas) (bs : List Shelf) (s : Shelf) (ys : List Shelf
   -- ---- the items and the freed items
 
   fr : Fresh freedRow (rows items I) (allItemRows (a .shelves)) pi
-  fr = fresh freedRow (rows items I) (allItemRows (a .shelves)) pi (used-items st a stands) item-left (sound .item-rows)
+  fr = item-is-fresh st a stands shelf-left item-left
 
   item-same : (r : ℕ) → r ≢ at-new → get items I′ r ≡ get items I r
   item-same r n = simp reads

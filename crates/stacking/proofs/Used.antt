@@ -1,6 +1,7 @@
--- In a state in which an atlas stands, the rows that it uses are there, and none of them is the index that names no row. Assumes nothing.
+-- In a state in which an atlas stands, the rows that it uses are there, and none of them is the index that names no row; the header says S.
+-- Assumes nothing.
 use Prim.Native.Nat.{ℕ, _<_}
-use mathlib.Core.Path.{_≡_, refl}
+use mathlib.Core.Path.{_≡_, refl, ap}
 use mathlib.Core.Logic.{_≢_, _⊎_, inl, inr}
 use mathlib.Core.Bool.{true}
 use mathlib.Core.List.{List, [], _∷_, List·Memᴰ·head}
@@ -13,13 +14,18 @@ use Rattle.chains.specs.Chain.{firstRow}
 use Rattle.rows.specs.Row.{rows, rows-few}
 use Rattle.rows.specs.Item.{items}
 use Rattle.rows.specs.Shelf.{shelves}
+use Rattle.rows.specs.declared.header.Header.{Header}
 use Rattle.rules.specs.Atlas.{Shelf, Atlas}
-use Rattle.rules.specs.Lies.{shelf}
+use Rattle.rules.specs.Lies.{shelf, headerOf}
 use Rattle.rules.specs.Keeps.{shelfRows, allItemRows}
 use Rattle.steps.specs.State.{State}
 use Rattle.opening.proofs.Standing.{Stands, used-shelves, used-items}
 
 module _ (st : State) (a : Atlas) (stands : Stands st a) where
+  pub shelf-width-is : st .header .«shelf_width» ≡ a .limits .«shelf_width»
+  unfolding headerOf
+  shelf-width-is = ap (λ (q : Header). q .«shelf_width») (stands .lies .header)
+
   pub shelf-some : (r : ℕ) → r < a .rows .shelves .used → r ≢ noRow
   shelf-some r b = omega (arith, used-shelves st a stands, rows-few shelves (st .shelves))
 
