@@ -1,8 +1,9 @@
 -- The two merges of shelves at the end of a release, as the rules say them: they lead to the atlas that the rules make. Assumes nothing.
-use Prim.Native.Nat.{ℕ, _<_, _+_, _^_}
-use mathlib.Core.Path.{_≡_, refl, ap}
+use Prim.Native.Nat.{ℕ, _<_, _≤_, _+_, _^_}
+use mathlib.Core.Path.{_≡_, refl, ap, subst}
 use mathlib.Core.Bool.{Bool, true, false, not, _&&_, false≢true}
 use mathlib.Core.List.{List, [], _∷_}
+use native.Mathlib.Omega.{arith}
 use lib.Dec.{eqb}
 use Rattle.numbers.specs.Pick.{pick}
 use Rattle.numbers.specs.Index.{noRow, noShelf}
@@ -15,7 +16,7 @@ use Rattle.rows.specs.Row.{rows, get, rows-few, get-out}
 use Rattle.rows.specs.Shelf.{shelves, shelfAt}
 use Rattle.rows.specs.declared.shelf.ShelfRow.{ShelfRow}
 use Rattle.rules.specs.Atlas.{Item, Shelf, Rows, Atlas, isEmpty}
-use Rattle.rules.specs.Release.{Stack, freeShelf, deeper, joins, mergeBelow, mergeAbove}
+use Rattle.rules.specs.Release.{Stack, freeing, freeItemRow, freeShelfRow, freeShelf, deeper, joins, mergeBelow, mergeAbove}
 use Rattle.rules.specs.Lies.{flag, shelf}
 use Rattle.steps.specs.State.{State}
 use Rattle.steps.specs.Search.{shelfIsEmpty}
@@ -23,7 +24,7 @@ use Rattle.steps.specs.ShelfEdits.{mergeShelves}
 use Rattle.steps.specs.Release.{joins as joinsAt, mergeBelow as mergeBelowAt, mergeAbove as mergeAboveAt}
 use Rattle.opening.proofs.Standing.{Stands, onRow, shelf-says}
 use Rattle.stacking.proofs.Merge.{merge-leads}
-use Rattle.stacking.proofs.Leads.{Leads, leads-same}
+use Rattle.stacking.proofs.Leads.{Leads, leads-same, leads-then}
 
 -- the atlas of a stack
 abbrev pub stacked : Limits → Stack → Atlas
@@ -35,6 +36,13 @@ stack bs s ys r = record { shelves = record { before = bs; this = s; after = ys 
 -- two shelves that join are together no deeper than a row can say
 abbrev pub Low : Shelf → Shelf → Type 0
 Low s t = joins s t ≡ true → s .depth + t .depth < 2 ^ 16
+
+-- so is it with the shelf of a stack and the next one, and with the one before it
+abbrev pub LowBelow : Stack → Type 0
+LowBelow m = (n : Shelf) (ys : List Shelf) → m .shelves .after ≡ n ∷ ys → Low (m .shelves .this) n
+
+abbrev pub LowAbove : Stack → Type 0
+LowAbove m = (p : Shelf) (bs : List Shelf) → m .shelves .before ≡ p ∷ bs → Low p (m .shelves .this)
 
 -- ---- what is read of two neighbours
 
@@ -153,8 +161,7 @@ module _ (st : State) (l : Limits) (bs : List Shelf) (p s : Shelf) (ys : List Sh
 -- ---- the two merges
 
 module _ (st : State) (l : Limits) where
-  pub merge-below : (m : Stack) → ((n : Shelf) (ys : List Shelf) → m .shelves .after ≡ n ∷ ys → Low (m .shelves .this) n)
-      → Stands st (stacked l m)
+  pub merge-below : (m : Stack) → LowBelow m → Stands st (stacked l m)
       → Leads st (mergeBelowAt st (onRow (m .shelves .this .row))) (stacked l (mergeBelow m))
   merge-below m = go (m .shelves .before) (m .shelves .this) (m .shelves .after) (m .rows) where
     go : (bs : List Shelf) (s : Shelf) (ys : List Shelf) (r : Rows) → ((n : Shelf) (zs : List Shelf) → ys ≡ n ∷ zs → Low s n)
@@ -165,8 +172,7 @@ module _ (st : State) (l : Limits) where
         rw (below-at st (onRow (s .row)) noShelf e, none-below, below-none) (leads-same st _ stands)
     go bs s (n ∷ ys) r low stands = below-next st l bs s n ys r stands (low n ys refl)
 
-  pub merge-above : (m : Stack) → ((p : Shelf) (bs : List Shelf) → m .shelves .before ≡ p ∷ bs → Low p (m .shelves .this))
-      → Stands st (stacked l m)
+  pub merge-above : (m : Stack) → LowAbove m → Stands st (stacked l m)
       → Leads st (mergeAboveAt st (onRow (m .shelves .this .row))) (stacked l (mergeAbove m))
   merge-above m = go (m .shelves .before) (m .shelves .this) (m .shelves .after) (m .rows) where
     go : (bs : List Shelf) (s : Shelf) (ys : List Shelf) (r : Rows) → ((p : Shelf) (cs : List Shelf) → bs ≡ p ∷ cs → Low p s)
@@ -187,3 +193,33 @@ below-row m = go (m .shelves .before) (m .shelves .this) (m .shelves .after) (m 
     kept : (b : Bool) → pick b (stack bs (deeper s (s .depth + n .depth)) ys (freeShelf n r)) (stack bs s (n ∷ ys) r) .shelves .this .row ≡ s .row
     kept true = refl
     kept false = refl
+
+-- no merge takes a row into use or out of it
+above-used : (m : Stack) → (m .rows .shelves .used ≤ mergeAbove m .rows .shelves .used) × (m .rows .items .used ≤ mergeAbove m .rows .items .used)
+unfolding freeShelf freeShelfRow freeItemRow freeing
+above-used m = go (m .shelves .before) (m .shelves .this) (m .shelves .after) (m .rows) where
+  as-many : (s : Shelf) (is : List Item) (r : Rows) → s .items ≡ is → (r .shelves .used ≤ freeShelf s r .shelves .used) × (r .items .used ≤ freeShelf s r .items .used)
+  as-many s [] r e = rw (e, freeShelf) (omega arith, omega arith)
+  as-many s (i ∷ is) r e = rw (e, freeShelf) (omega arith, omega arith)
+
+  go : (bs : List Shelf) (s : Shelf) (ys : List Shelf) (r : Rows)
+      → (r .shelves .used ≤ mergeAbove (stack bs s ys r) .rows .shelves .used) × (r .items .used ≤ mergeAbove (stack bs s ys r) .rows .items .used)
+  go [] s ys r = rw above-none (omega arith, omega arith)
+  go (p ∷ bs) s ys r = rw above-rule (chosen (joins p s)) where
+    chosen : (b : Bool)
+        → (r .shelves .used ≤ pick b (stack bs (deeper p (p .depth + s .depth)) ys (freeShelf s r)) (stack (p ∷ bs) s ys r) .rows .shelves .used)
+        × (r .items .used ≤ pick b (stack bs (deeper p (p .depth + s .depth)) ys (freeShelf s r)) (stack (p ∷ bs) s ys r) .rows .items .used)
+    chosen true = as-many s (s .items) r refl
+    chosen false = (omega arith, omega arith)
+
+-- "merge an empty next shelf of the same column in, then merge into an empty previous one of that column"
+pub merge-both : (st : State) (l : Limits) (m : Stack) → LowBelow m → LowAbove (mergeBelow m) → Stands st (stacked l m)
+    → let on : ShelfIndex = onRow (m .shelves .this .row) in
+    Leads st (mergeAboveAt (mergeBelowAt st on) on) (stacked l (mergeAbove (mergeBelow m)))
+merge-both st l m low-below low-above stands =
+    let mid : State = mergeBelowAt st (onRow (m .shelves .this .row)) in
+    let below : Leads st mid (stacked l (mergeBelow m)) = merge-below st l m low-below stands in
+    let above : Leads mid (mergeAboveAt mid (onRow (m .shelves .this .row))) (stacked l (mergeAbove (mergeBelow m))) =
+    subst (λ (r : ℕ). Leads mid (mergeAboveAt mid (onRow r)) (stacked l (mergeAbove (mergeBelow m)))) (below-row m) (merge-above mid l (mergeBelow m) low-above (below .stands)) in
+    let (s, i) = above-used (mergeBelow m) in
+    leads-then s i below above
