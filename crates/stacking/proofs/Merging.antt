@@ -1,7 +1,7 @@
 -- The two merges of shelves at the end of a release, as the rules say them: they lead to the atlas that the rules make. Assumes nothing.
 use Prim.Native.Nat.{ℕ, _<_, _≤_, _+_, _^_}
 use mathlib.Core.Path.{_≡_, refl, ap, subst}
-use mathlib.Core.Bool.{Bool, true, false, not, _&&_, false≢true}
+use mathlib.Core.Bool.{Bool, true, false, _&&_}
 use mathlib.Core.List.{List, [], _∷_}
 use native.Mathlib.Omega.{arith}
 use lib.Dec.{eqb}
@@ -17,12 +17,13 @@ use Rattle.rows.specs.Shelf.{shelves, shelfAt}
 use Rattle.rows.specs.declared.shelf.ShelfRow.{ShelfRow}
 use Rattle.rules.specs.Atlas.{Item, Shelf, Rows, Atlas, isEmpty}
 use Rattle.rules.specs.Release.{Stack, freeing, freeItemRow, freeShelfRow, freeShelf, deeper, joins, mergeBelow, mergeAbove}
-use Rattle.rules.specs.Lies.{flag, shelf}
+use Rattle.rules.specs.Lies.{shelf}
 use Rattle.steps.specs.State.{State}
 use Rattle.steps.specs.Search.{shelfIsEmpty}
 use Rattle.steps.specs.ShelfEdits.{mergeShelves}
 use Rattle.steps.specs.Release.{joins as joinsAt, mergeBelow as mergeBelowAt, mergeAbove as mergeAboveAt}
 use Rattle.opening.proofs.Standing.{Stands, onRow, shelf-says}
+use Rattle.stacking.proofs.Empty.{flag-one, lone-item}
 use Rattle.stacking.proofs.Merge.{merge-leads}
 use Rattle.stacking.proofs.Leads.{Leads, leads-same, leads-then}
 
@@ -45,10 +46,6 @@ abbrev pub LowAbove : Stack → Type 0
 LowAbove m = (p : Shelf) (bs : List Shelf) → m .shelves .before ≡ p ∷ bs → Low p (m .shelves .this)
 
 -- ---- what is read of two neighbours
-
-flag-one : (b : Bool) → eqb (flag b) 1 ≡ b
-flag-one true = refl
-flag-one false = refl
 
 and-three : (a b c : Bool) → a && (b && c) ≡ a && b && c
 and-three true b c = refl
@@ -74,16 +71,6 @@ none-below S at = rw none-empty (and-false (shelfIsEmpty (shelfAt S at)) (eqb (s
 none-above : (S : List ℕ) (at : ShelfIndex) → joinsAt S noShelf at ≡ false
 unfolding joinsAt
 none-above S at = rw none-empty
-
--- an empty shelf is one free item
-lone-item : (is : List Item) → isEmpty is ≡ true → (i : Item) × (is ≡ i ∷ []) × (i .live ≡ false)
-unfolding isEmpty
-lone-item [] e = absurd (false≢true e)
-lone-item (i ∷ []) e = (i, refl, not-true (i .live) e) where
-  not-true : (b : Bool) → not b ≡ true → b ≡ false
-  not-true true e = absurd (false≢true e)
-  not-true false e = refl
-lone-item (i ∷ j ∷ is) e = absurd (false≢true e)
 
 -- ---- the choice that a merge makes, as each of the two says it
 
