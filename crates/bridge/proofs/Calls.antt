@@ -1,7 +1,7 @@
 -- What each call comes to: where the audit passes, the steps over header and tables answer and leave what the rules say of the atlas that is met
 -- there. These are the statements that other crates cite. Assumes nothing.
 use Prim.Native.Nat.{ℕ, _-_, _*_, _≤_}
-use mathlib.Core.Path.{_≡_}
+use mathlib.Core.Path.{_≡_, refl}
 use mathlib.Core.Logic.{_⊎_}
 use mathlib.Core.Bool.{true, false}
 use mathlib.Core.Option.{none, some}
@@ -32,6 +32,7 @@ use Rattle.steps.specs.Init.{freshHeader, freshShelfTable, freshItemTable}
 use Rattle.steps.specs.Search.{search}
 use Rattle.steps.specs.Spare.{hasRows}
 use Rattle.steps.specs.Live.{atRow, isLive, liveAt, isVacant}
+use Rattle.steps.specs.Grant.{grantAt, grantedAt}
 use Rattle.steps.specs.Release.{releaseAt}
 use Rattle.steps.specs.declared.search.Place.{Place}
 use Rattle.steps.specs.declared.search.Held.the-variants.{Nothing, Good, Bad}
@@ -41,6 +42,7 @@ use Rattle.bridge.proofs.Outcome as outcome
 use Rattle.bridge.proofs.Made as made
 use Rattle.bridge.proofs.Answers as answers
 use Rattle.bridge.proofs.Held as held
+use Rattle.bridge.proofs.Granted as granted
 use Rattle.bridge.proofs.Released as released
 
 -- ---- what a call leaves
@@ -77,6 +79,10 @@ asked-within l limits q w h e =
     asked-placeable (l .«align_width») (l .«align_height») (l .vertical) (l .«shelf_width») (l .height) (limits .align-width-least) (limits .align-height-least) q w h e in
     record { some-width = p .some-width; aligned = p .multiple; no-wider = p .most-width; some-depth = p .some-depth; no-deeper = p .most-depth }
 
+limits-are : (h : Header) (S I : List ℕ) → atlasIn h S I .limits ≡ limitsOf h
+unfolding atlasIn limitsOf
+limits-are h S I = refl
+
 module _ (h : Header) (S I : List ℕ) (p : Passes h S I) (q : Asked) where
   pub grant-nothing : search S I h q ≡ Nothing → grant (roomIn S I) (atlasIn h S I) q ≡ refused 6
   grant-nothing = held.refuses-6 h S I (atlasIn h S I) (reads h S I p) (keeps h S I p) q
@@ -84,6 +90,13 @@ module _ (h : Header) (S I : List ℕ) (p : Passes h S I) (q : Asked) where
   pub grant-few : (at : Place) → (search S I h q ≡ Good at) ⊎ (search S I h q ≡ Bad at) → hasRows S I h at q ≡ false → grant (roomIn S I) (atlasIn h S I) q ≡ refused 7
   grant-few at o =
       held.refuses-7 h S I (atlasIn h S I) (reads h S I p) (keeps h S I p) q at (held.place-held h S I (atlasIn h S I) (reads h S I p) (keeps h S I p) q at o)
+
+  pub grant-placed : WithinAtlas (limitsOf h) q → (at : Place) → (search S I h q ≡ Good at) ⊎ (search S I h q ≡ Bad at) → hasRows S I h at q ≡ true
+      → (a′ : Atlas)
+      × (grant (roomIn S I) (atlasIn h S I) q ≡ grants (grantedAt (state h S I) at q .live) a′)
+      × Becomes S I (grantAt (state h S I) at q .header) (grantAt (state h S I) at q .shelves) (grantAt (state h S I) at q .items) a′
+  grant-placed within at o =
+      granted.grant-done h S I (atlasIn h S I) (reads h S I p) (keeps h S I p) q (rw limits-are within) at (held.place-held h S I (atlasIn h S I) (reads h S I p) (keeps h S I p) q at o)
 
 -- ---- release and look-up
 

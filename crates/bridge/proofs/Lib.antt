@@ -9,4 +9,5 @@ pub mod Released
 pub mod Held
 pub mod Taken
 pub mod Placed
+pub mod Granted
 pub mod Calls
