@@ -1,25 +1,23 @@
 -- What the calls answer that change nothing: look-up, list, totals, size and is_empty, and the refusals of a release. Assumes nothing.
 use Prim.Native.Nat.{ℕ, zero, suc, _+_, _-_, _*_, _≤_, _<_}
-use mathlib.Core.Path.{_≡_, refl, sym, ap, _∙_, subst}
+use mathlib.Core.Path.{_≡_, refl, sym, ap, _∙_}
 use mathlib.Core.Bool.{Bool, true, false, not, _&&_, false≢true}
 use mathlib.Core.Option.{Option, none, some}
 use mathlib.Core.List.{List, [], _∷_}
 use native.Mathlib.Omega.{arith}
 use native.Mathlib.Nat.{mul-le-mul}
 use lib.Dec.{eqb}
-use borrow.Author.Tests.{eq-eqb, ne-eqb}
+use borrow.Author.Tests.{ne-eqb}
 use Rattle.numbers.specs.Pick.{pick}
 use Rattle.numbers.specs.declared.limits.Limits.{Limits}
 use Rattle.rows.specs.declared.header.Header.{Header}
-use Rattle.rows.specs.declared.live.Live.{Live}
 use Rattle.chains.specs.Lists.{Each, Neighbours}
 use Rattle.rules.specs.Limits.{xOf, yOf}
 use Rattle.rules.specs.Atlas.{Item, Shelf, Atlas, isEmpty, liveArea, occupied}
-use Rattle.rules.specs.Grant.{liveOf}
-use Rattle.rules.specs.Release.{Found, findLive, releaseFound}
+use Rattle.rules.specs.Release.{Found, findLive}
 use Rattle.rules.specs.Calls.{release, lookUp, list, freeSpace, sizeX, sizeY, allEmpty}
-use Rattle.rules.specs.Lies.{Lies, headerOf, roomIn}
-use Rattle.rules.specs.Keeps.{Filled, NotBothFree, Stacked, Keeps}
+use Rattle.rules.specs.Lies.{headerOf}
+use Rattle.rules.specs.Keeps.{Filled, NotBothFree}
 use Rattle.rules.specs.Audit.{limitsOf, atlasIn, Passes}
 use Rattle.reading.proofs.Reading.{reads, keeps}
 use Rattle.keeps.proofs.Finding.{FoundAt}

@@ -22,12 +22,12 @@ use Rattle.rows.specs.declared.header.Header.{Header}
 use Rattle.rules.specs.Limits.{columns, alongStep, WithinLimits, WithinAtlas}
 use Rattle.rules.specs.Atlas.{Atlas, occupied, fresh}
 use Rattle.rules.specs.Grant.{refused, grants, grant}
-use Rattle.rules.specs.Release.{Found, releaseFound}
+use Rattle.rules.specs.Release.{releaseFound}
 use Rattle.rules.specs.Calls.{release, lookUp, list, freeSpace, sizeX, sizeY, allEmpty}
 use Rattle.rules.specs.Lies.{roomIn}
 use Rattle.rules.specs.Audit.{limitsOf, atlasIn, Passes, PassesForClear}
 use Rattle.reading.proofs.Reading.{reads, keeps}
-use Rattle.steps.specs.State.{State, state}
+use Rattle.steps.specs.State.{state}
 use Rattle.steps.specs.Init.{freshHeader, freshShelfTable, freshItemTable}
 use Rattle.steps.specs.Search.{search}
 use Rattle.steps.specs.Spare.{hasRows}

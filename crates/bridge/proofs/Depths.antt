@@ -1,13 +1,13 @@
 -- What the merges of a release do to the rows in use and to the depth of the shelf that is left. Assumes nothing.
-use Prim.Native.Nat.{ℕ, _+_, _≤_, _<_}
+use Prim.Native.Nat.{ℕ, _+_, _≤_}
 use mathlib.Core.Path.{_≡_, refl, sym, ap, _∙_}
-use mathlib.Core.Bool.{Bool, true, false, false≢true}
+use mathlib.Core.Bool.{true, false, false≢true}
 use mathlib.Core.List.{List, [], _∷_}
 use native.Mathlib.Omega.{arith}
 use Rattle.rules.specs.Atlas.{Item, Shelf, Rows}
 use Rattle.rules.specs.Release.{Loose, Stack, freeing, freeItemRow, freeShelfRow, freeShelf, deeper, joins, mergeNext, mergeInto, mergeBelow, mergeAbove}
 use Rattle.keeps.proofs.Merging.{next-cases, into-cases, below-cases, above-cases}
-use Rattle.stacking.proofs.Merging.{Low, LowBelow, LowAbove}
+use Rattle.stacking.proofs.Merging.{LowBelow, LowAbove}
 
 -- ---- no merge changes how many rows are in use
 

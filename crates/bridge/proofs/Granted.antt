@@ -1,17 +1,13 @@
 -- A grant, whole: what it leaves in header and tables is the atlas that the rules make, and its answer is the rules' answer. Assumes nothing.
-use Prim.Native.Nat.{ℕ, _+_, _-_, _*_, _^_, _≤_, _<_}
-use mathlib.Core.Path.{_≡_, refl, sym, ap, _∙_, subst}
-use mathlib.Core.Logic.{_⊎_}
+use Prim.Native.Nat.{ℕ, _+_, _-_, _≤_, _<_}
+use mathlib.Core.Path.{_≡_, refl, ap, _∙_, subst}
 use mathlib.Core.Bool.{Bool, true, false, _||_}
 use mathlib.Core.List.{List, [], _∷_}
 use native.Mathlib.Nat.{mul-le-mul-left}
 use native.Mathlib.Omega.{arith}
 use lib.Dec.{ltb}
 use lib.ListN.{length}
-use borrow.Author.Tests.{ltb-true, ltb-false}
-use Rattle.numbers.specs.Pick.{pick}
-use Rattle.numbers.specs.Fit.{largeEnoughToSplit}
-use Rattle.numbers.specs.Tests.{both}
+use borrow.Author.Tests.{ltb-false}
 use Rattle.numbers.specs.declared.request.Asked.{Asked}
 use Rattle.chains.specs.Lists.{_∈_, Each, Focus, back-onto}
 use Rattle.chains.proofs.Chains.{each-split, each-join}
@@ -22,11 +18,10 @@ use Rattle.rows.specs.Header.{withUsedItems, withUsedShelves, withFreeItems, wi
 use Rattle.rows.specs.Pool.{itemTaken as itemTakenAt, shelfTaken as shelfTakenAt}
 use Rattle.rows.specs.declared.header.Header.{Header}
 use Rattle.rules.specs.Limits.{WithinAtlas}
-use Rattle.rules.specs.Atlas.{Item, Shelf, Freed, Pool, Rows, Atlas, Room, isEmpty, occupied}
+use Rattle.rules.specs.Atlas.{Item, Shelf, Pool, Rows, Atlas, Room, occupied}
 use Rattle.rules.specs.Grant.{taken, rowsLeft, count, tooFewRows, splitsShelf, splitsItem, upperPart, lowerPart, shelfTaken, itemTaken, liveOf, grants, place, placeIn, grant}
 use Rattle.rules.specs.Lies.{Lies, headerOf, roomIn}
 use Rattle.rules.specs.Keeps.{AllListed, Shaped, Keeps}
-use Rattle.keeps.specs.Places.{Chosen}
 use Rattle.keeps.proofs.Around.{pick-cases}
 use Rattle.keeps.proofs.Kept.{grant-shaped}
 use Rattle.steps.specs.State.{State, state}
@@ -35,6 +30,7 @@ use Rattle.steps.specs.ShelfEdits.{splitShelf}
 use Rattle.steps.specs.Spare.{hasRows, splitsShelf as splitsRow}
 use Rattle.steps.specs.Grant.{fitShelf, takeItem, grantAt, grantedAt}
 use Rattle.steps.specs.declared.search.Place.{Place}
+use Rattle.finding.proofs.Narrow.{shaped-narrow, shelf-narrow}
 use Rattle.finding.proofs.Looking.{told}
 use Rattle.opening.proofs.Standing.{Stands, widths, NarrowShelf, onRow}
 use Rattle.opening.proofs.Frames.{focus-of}
@@ -45,8 +41,7 @@ use Rattle.stacking.proofs.Leads.{Leads, leads-same, leads-then}
 use Rattle.stacking.proofs.Fitting.{fit-whole, fit-split}
 use Rattle.bridge.specs.After.{Becomes}
 use Rattle.bridge.proofs.Outcome.{becomes}
-use Rattle.bridge.proofs.Released.{shaped-narrow}
-use Rattle.bridge.proofs.Held.{PlaceHeld, placeOf, rows-suffice}
+use Rattle.bridge.proofs.Held.{PlaceHeld, rows-suffice}
 use Rattle.bridge.proofs.Placed.{before-grant, Placement, placement}
 
 -- ---- the rows that the two splits need
@@ -162,7 +157,7 @@ module _ (h : Header) (S I : List ℕ) (a : Atlas) (lies : Lies h S I a) (keeps 
   -- ---- the shelf as it is
 
   narrow-here : NarrowShelf s
-  narrow-here = each-split NarrowShelf (f .before) (s ∷ f .after) (rw (k .chosen .stands) at (shaped-narrow a (keeps .shaped) .each)) .1 .0
+  narrow-here = shelf-narrow a (keeps .shaped) (f .before) s (f .after) (k .chosen .stands)
 
   all-here : Each AllListed (back-onto (f .before) (s ∷ f .after))
   all-here = rw (k .chosen .stands) at (keeps .shaped .all-listed)

@@ -4,12 +4,10 @@ use mathlib.Core.Path.{_≡_, refl, sym, ap, _∙_, subst}
 use mathlib.Core.Logic.{_⊎_, inl, inr, ⊎-elim}
 use mathlib.Core.Bool.{Bool, true, false, not}
 use mathlib.Core.Option.{some}
-use mathlib.Core.List.{List, [], _∷_}
+use mathlib.Core.List.{List, []}
 use native.Mathlib.Omega.{arith}
-use Rattle.numbers.specs.Pick.{pick}
 use Rattle.numbers.specs.declared.request.Asked.{Asked}
-use Rattle.chains.specs.Lists.{Focus, back-onto}
-use Rattle.rows.specs.Row.{get}
+use Rattle.chains.specs.Lists.{Focus}
 use Rattle.rows.specs.Item.{items}
 use Rattle.rows.specs.Views.{Body, bodyOf}
 use Rattle.rows.specs.declared.header.Header.{Header}

@@ -1,6 +1,6 @@
 -- Item rows that link among themselves: an edit of such a table follows its links, so it changes none of the rows after them. Assumes nothing.
 use Prim.Native.Nat.{ℕ, _≤_, _<_}
-use mathlib.Core.Path.{_≡_, refl, _∙_}
+use mathlib.Core.Path.{_≡_, refl}
 use mathlib.Core.Logic.{_⊎_, inl, inr, ⊎-elim}
 use mathlib.Core.List.{List}
 use native.Mathlib.Decide.{ℕ-discrete}

@@ -1,11 +1,8 @@
 -- A release changes item rows in use only, and one shelf row. Assumes nothing.
 use Prim.Native.Nat.{ℕ, _<_}
-use mathlib.Core.Path.{_≡_, refl}
 use mathlib.Core.Logic.{inl}
-use mathlib.Core.Bool.{Bool}
 use mathlib.Core.List.{List}
 use lib.Dec.{eqb}
-use Rattle.numbers.specs.Pick.{pick}
 use Rattle.numbers.specs.declared.index.ItemIndex.{ItemIndex}
 use Rattle.numbers.specs.declared.index.ShelfIndex.{ShelfIndex}
 use Rattle.rows.specs.Row.{get}
@@ -15,10 +12,8 @@ use Rattle.rows.specs.Header.{withFreeItems, withOccupied}
 use Rattle.rows.specs.Pool.{itemFreed}
 use Rattle.keeps.proofs.Around.{pick-cases}
 use Rattle.steps.specs.State.{State}
-use Rattle.steps.specs.Live.{areaAt}
-use Rattle.steps.specs.ItemEdits.{markFree, unlist, enlist, joinNext, firstAfter}
-use Rattle.steps.specs.ShelfEdits.{withFree}
-use Rattle.steps.specs.Release.{Loose, isFreeItem, absorbNext, mergeNext, mergeInto, loosen, oneFree, flagOf, vacated, loosened, releaseItem}
+use Rattle.steps.specs.ItemEdits.{markFree, firstAfter}
+use Rattle.steps.specs.Release.{Loose, isFreeItem, absorbNext, mergeNext, mergeInto, loosen, vacated, loosened, releaseItem}
 use Rattle.stacking.proofs.Past.{Past, past-same, past-change}
 use Rattle.bridge.proofs.Inward.{Below, Linked, Inward, linked-at, inward-change, linked-mark, inward-unlist, inward-enlist, inward-join}
 

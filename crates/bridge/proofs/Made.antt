@@ -1,6 +1,5 @@
 -- Create and clear: a fresh atlas stands in what they leave. Assumes nothing.
 use Prim.Native.Nat.{ℕ, _≤_}
-use mathlib.Core.Path.{_≡_}
 use mathlib.Core.List.{List}
 use Rattle.numbers.specs.declared.limits.Limits.{Limits}
 use Rattle.rows.specs.Row.{rows}

@@ -1,6 +1,6 @@
 -- A grant at a place: the item granted is found in the atlas that the rules make, and the step changes rows in use only. Assumes nothing.
-use Prim.Native.Nat.{ℕ, _≤_, _<_}
-use mathlib.Core.Path.{_≡_, refl, sym, ap, _∙_}
+use Prim.Native.Nat.{_≤_, _<_}
+use mathlib.Core.Path.{_≡_, refl, ap, _∙_}
 use mathlib.Core.Logic.{inl, inr}
 use mathlib.Core.Bool.{Bool, true, false}
 use mathlib.Core.Option.{some}
@@ -8,7 +8,6 @@ use mathlib.Core.List.{List, [], _∷_, List·Memᴰ·head, Memᴰ·append-left}
 use native.Mathlib.Omega.{arith}
 use Rattle.numbers.specs.declared.request.Asked.{Asked}
 use Rattle.chains.specs.Lists.{_∈_, Each, Focus, back-onto}
-use Rattle.chains.specs.Chain.{firstRow}
 use Rattle.chains.proofs.Chains.{in-onto}
 use Rattle.rows.specs.Row.{rows, get}
 use Rattle.rows.specs.Item.{items}
@@ -18,7 +17,7 @@ use Rattle.rows.specs.declared.header.Header.{Header}
 use Rattle.rules.specs.Atlas.{Item, Shelf, Rows, Atlas}
 use Rattle.rules.specs.Grant.{newRow, taken, rowsLeft, splitsItem, itemTaken, granted, holding, grantWhole, grantPart, liveOf, grants, place}
 use Rattle.rules.specs.Release.{Found}
-use Rattle.rules.specs.Lies.{headerOf, roomIn}
+use Rattle.rules.specs.Lies.{headerOf}
 use Rattle.rules.specs.Keeps.{itemRows, allItemRows, AllListed}
 use Rattle.keeps.proofs.Finding.{FoundAt}
 use Rattle.steps.specs.State.{State}

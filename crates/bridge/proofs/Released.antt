@@ -1,26 +1,25 @@
 -- A release, whole: what it leaves in header and tables is the atlas that the rules make. Assumes nothing.
-use Prim.Native.Nat.{ℕ, _+_, _≤_, _<_}
-use mathlib.Core.Path.{_≡_, refl, sym, ap, _∙_, subst}
+use Prim.Native.Nat.{ℕ, _≤_, _<_}
+use mathlib.Core.Path.{_≡_, refl, sym, ap, subst}
 use mathlib.Core.Logic.{inl, inr}
 use mathlib.Core.Bool.{true}
 use mathlib.Core.Option.{some}
 use mathlib.Core.List.{List, [], _∷_, List·Memᴰ·head, Memᴰ·append-left}
 use native.Mathlib.Omega.{arith}
-use Rattle.numbers.specs.declared.index.ItemIndex.{ItemIndex}
 use Rattle.numbers.specs.declared.index.ShelfIndex.{ShelfIndex}
-use Rattle.chains.specs.Lists.{_∈_, Each, back-onto}
-use Rattle.chains.specs.Chain.{firstRow, firstOf}
+use Rattle.chains.specs.Lists.{_∈_, back-onto}
+use Rattle.chains.specs.Chain.{firstOf}
 use Rattle.chains.proofs.Chains.{in-onto, each-split}
 use Rattle.rows.specs.Row.{get}
-use Rattle.rows.specs.Item.{items, itemAt}
-use Rattle.rows.specs.Shelf.{shelves, shelfAt}
+use Rattle.rows.specs.Item.{items}
+use Rattle.rows.specs.Shelf.{shelves}
 use Rattle.rows.specs.declared.header.Header.{Header}
 use Rattle.rows.specs.declared.shelf.ShelfRow.{ShelfRow}
-use Rattle.rules.specs.Atlas.{Item, Shelf, Freed, Rows, Atlas}
+use Rattle.rules.specs.Atlas.{Item, Shelf, Atlas}
 use Rattle.rules.specs.Grant.{holding}
 use Rattle.rules.specs.Release.{Loose, Stack, Found, mergeNext, mergeInto, mergeBelow, mergeAbove, releaseFound}
-use Rattle.rules.specs.Lies.{freedItem, Lies, headerOf, roomIn}
-use Rattle.rules.specs.Keeps.{shelfRows, itemRows, allItemRows, AllListed, FreeListed, Shaped, Keeps}
+use Rattle.rules.specs.Lies.{Lies, headerOf, roomIn}
+use Rattle.rules.specs.Keeps.{itemRows, allItemRows, AllListed, FreeListed, Shaped, Keeps}
 use Rattle.reading.proofs.Unique.{free-row}
 use Rattle.keeps.proofs.Finding.{FoundAt}
 use Rattle.keeps.proofs.Columns.{Placed, stacked-placed}
@@ -28,8 +27,8 @@ use Rattle.keeps.proofs.ReleaseShaped.{release-shape}
 use Rattle.steps.specs.State.{State, state}
 use Rattle.steps.specs.Live.{atRow}
 use Rattle.steps.specs.Release.{mergeBelow as mergeBelowAt, mergeAbove as mergeAboveAt, releaseItem, releaseAt}
-use Rattle.opening.proofs.Standing.{Stands, Narrow, NarrowShelf, onRow, shelf-says}
-use Rattle.opening.proofs.Bounds.{narrow}
+use Rattle.finding.proofs.Narrow.{shaped-narrow, shelf-narrow}
+use Rattle.opening.proofs.Standing.{Stands, NarrowShelf, onRow, shelf-says}
 use Rattle.opening.proofs.Placing.{names-shelf}
 use Rattle.opening.proofs.Steady.{itemsOf}
 use Rattle.opening.proofs.Releasing.{release-stands}
@@ -41,10 +40,6 @@ use Rattle.bridge.proofs.Inward.{Below}
 use Rattle.bridge.proofs.Served.{inward, head-below}
 use Rattle.bridge.proofs.Loosed.{released-items, released-shelves}
 use Rattle.bridge.proofs.Depths.{SameUse, loose-use, stack-use, low-below, low-above}
-
--- no stored sum of an atlas in shape wraps
-pub shaped-narrow : (a : Atlas) → Shaped a → Narrow a
-shaped-narrow a k = narrow a (k .limits) (k .stacked) (stacked-placed (a .limits) 0 0 (a .shelves) (k .stacked)) (k .filled)
 
 -- the step, by the row of the item's shelf
 release-step : (st : State) (on row : ℕ) → get items (st .items) row .shelf ≡ onRow on
@@ -86,7 +81,7 @@ module _ (h : Header) (S I : List ℕ) (a : Atlas) (lies : Lies h S I a) (keeps 
   all = each-split AllListed (w .shelf .before) (s ∷ w .shelf .after) (rw (found .0) at (keeps .shaped .all-listed)) .1 .0
 
   narrow-here : NarrowShelf s
-  narrow-here = each-split NarrowShelf (w .shelf .before) (s ∷ w .shelf .after) (rw (found .0) at (shaped-narrow a (keeps .shaped) .each)) .1 .0
+  narrow-here = shelf-narrow a (keeps .shaped) (w .shelf .before) s (w .shelf .after) (found .0)
 
   -- a free list starts with a row in use, or with none
   first-free : (fl : List ℕ) → ((r : ℕ) → r ∈ fl → r < a .rows .items .used) → Below (a .rows .items .used) (firstOf fl)

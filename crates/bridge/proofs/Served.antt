@@ -1,5 +1,5 @@
 -- In a state in which an atlas stands whose free lists are whole, the used item rows link among themselves. Assumes nothing.
-use Prim.Native.Nat.{ℕ, _≤_, _<_}
+use Prim.Native.Nat.{ℕ, _<_}
 use mathlib.Core.Path.{_≡_, refl, sym, ap, _∙_, subst}
 use mathlib.Core.Logic.{_⊎_, inl, inr, ⊎-elim}
 use mathlib.Core.List.{List, [], _∷_, List·Memᴰ·head, List·Memᴰ·tail, List·Memᴰ·not-nil, List·Memᴰ·cases-cons, List·Memᴰ·append-cases, Memᴰ·append-left, Memᴰ·append-right}
@@ -12,10 +12,9 @@ use Rattle.chains.proofs.Chains.{rowsOf, self}
 use Rattle.rows.specs.Row.{rows, get}
 use Rattle.rows.specs.Item.{items, withItemNext, withGeneration}
 use Rattle.rows.specs.Pool.{freedItemRow}
-use Rattle.rows.specs.Views.{Body, Links, bodyOf, linksOf}
-use Rattle.rows.specs.declared.item.ItemRow.{ItemRow}
-use Rattle.rules.specs.Atlas.{Item, Shelf, Freed, Atlas}
-use Rattle.rules.specs.Lies.{item, free, freedItem, noLinks, Holds}
+use Rattle.rows.specs.Views.{Body, bodyOf, linksOf}
+use Rattle.rules.specs.Atlas.{Shelf, Freed, Atlas}
+use Rattle.rules.specs.Lies.{item, free, freedItem, Holds}
 use Rattle.rules.specs.Keeps.{itemRows, allItemRows, freedRows, AllListed, FreeListed}
 use Rattle.reading.proofs.Unique.{free-row}
 use Rattle.reading.proofs.Determined.{live-or-free}

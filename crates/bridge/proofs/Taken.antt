@@ -1,6 +1,6 @@
 -- A grant changes item rows in use only, those that are then in use included, and one shelf row. Assumes nothing.
 use Prim.Native.Nat.{ℕ, _+_, _≤_, _<_}
-use mathlib.Core.Path.{_≡_, refl, ap}
+use mathlib.Core.Path.{_≡_, refl}
 use mathlib.Core.Logic.{_⊎_, inl, inr}
 use mathlib.Core.List.{List, [], _∷_, List·Memᴰ·head}
 use native.Mathlib.Decide.{ℕ-discrete}
@@ -13,14 +13,14 @@ use Rattle.rows.specs.Shelf.{shelves}
 use Rattle.rows.specs.Pool.{newItem, addItem, newGeneration}
 use Rattle.rows.specs.declared.header.Header.{Header}
 use Rattle.chains.specs.Lists.{_∈_}
-use Rattle.rules.specs.Atlas.{Freed, Pool}
+use Rattle.rules.specs.Atlas.{Pool}
 use Rattle.rules.specs.Grant.{newRow, taken}
 use Rattle.rules.specs.Keeps.{Shared}
 use Rattle.steps.specs.ItemEdits.{markLive, splitItem}
 use Rattle.steps.specs.Grant.{useShelf, takePartItems, takeWholeItems}
 use Rattle.opening.proofs.Taking.{rowsIn}
 use Rattle.stacking.proofs.Past.{Past, past-same, past-change}
-use Rattle.bridge.proofs.Inward.{Below, Linked, Inward, linked-at, inward-change, inward-new, linked-live, linked-span, linked-prev, linked-rest, below-more, inward-unlist, inward-relist}
+use Rattle.bridge.proofs.Inward.{Below, Inward, inward-change, inward-new, linked-live, linked-span, linked-prev, linked-rest, below-more, inward-unlist, inward-relist}
 
 -- ---- the rows in use once one is taken
 
