@@ -17,7 +17,7 @@ use Rattle.rules.specs.Grant.{splitsShelf, splitsItem, tooFewRows, refused, fin
 use Rattle.rules.specs.Release.{Found}
 use Rattle.rules.specs.Lies.{Lies, roomIn}
 use Rattle.rules.specs.Keeps.{Keeps}
-use Rattle.keeps.specs.Places.{Fits, Chosen}
+use Rattle.keeps.specs.Places.{Chosen}
 use Rattle.keeps.proofs.Kept.{search-holds, search-finds}
 use Rattle.keeps.proofs.Finding.{FoundItem, find-item}
 use Rattle.steps.specs.Search as table
@@ -78,20 +78,22 @@ module _ (h : Header) (S I : List ℕ) (a : Atlas) (lies : Lies h S I a) (keeps 
   unfolding placeAt
   at-found f row w e = rw (e, placeAt)
 
+  held-at : (p : Place) (k : Holding (rule.search q (a .shelves)) p) (w : Focus Item) → findItem (k .row) [] (k .shelf .this .items) ≡ some w → Chosen a q (k .shelf) w → PlaceHeld p
+  held-at p k w e c = record {
+    shelf = k .shelf;
+    item = w;
+    chosen = c;
+    is = k .is ∙ ap (λ (r : ℕ). record { shelf = onRow (k .shelf .this .row); item = atRow r; height = k .shelf .this .depth }) (sym (found .1));
+    grant-is = grant-at (k .shelf) (k .row) (k .held) ∙ at-found (k .shelf) (k .row) w e;
+  } where
+    found : FoundItem (k .row) (k .shelf .this .items) (k .shelf .this .items) (some w)
+    found = subst (FoundItem (k .row) (k .shelf .this .items) (k .shelf .this .items)) e (find-item (k .row) [] (k .shelf .this .items))
+
   pub place-held : (p : Place) → (table.search S I h q ≡ Good p) ⊎ (table.search S I h q ≡ Bad p) → PlaceHeld p
   place-held p o =
       let k : Holding (rule.search q (a .shelves)) p = some-held (rule.search q (a .shelves)) p (⊎-elim (λ e. inl (sym says ∙ e)) (λ e. inr (sym says ∙ e)) o) in
-      let f : Focus Shelf = k .shelf in
-      let fits : Fits q (a .shelves) f (k .row) = search-holds q (a .shelves) f (k .row) (k .held) in
-      let (w, e, c) = search-finds (roomIn S I) a q f (k .row) keeps fits in
-      let found : FoundItem (k .row) (f .this .items) (f .this .items) (some w) = subst (FoundItem (k .row) (f .this .items) (f .this .items)) e (find-item (k .row) [] (f .this .items)) in
-      record {
-        shelf = f;
-        item = w;
-        chosen = c;
-        is = k .is ∙ ap (λ (r : ℕ). record { shelf = onRow (f .this .row); item = atRow r; height = f .this .depth }) (sym (found .1));
-        grant-is = grant-at f (k .row) (k .held) ∙ at-found f (k .row) w e;
-      }
+      let (w, e, c) = search-finds (roomIn S I) a q (k .shelf) (k .row) keeps (search-holds q (a .shelves) (k .shelf) (k .row) (k .held)) in
+      held-at p k w e c
 
   -- ---- the rows that a place needs
 

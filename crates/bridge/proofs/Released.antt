@@ -8,8 +8,7 @@ use mathlib.Core.List.{List, [], _∷_, List·Memᴰ·head, Memᴰ·append-left}
 use native.Mathlib.Omega.{arith}
 use Rattle.numbers.specs.declared.index.ShelfIndex.{ShelfIndex}
 use Rattle.chains.specs.Lists.{_∈_, back-onto}
-use Rattle.chains.specs.Chain.{firstOf}
-use Rattle.chains.proofs.Chains.{in-onto, each-split}
+use Rattle.chains.proofs.Chains.{in-onto, each-split, self}
 use Rattle.rows.specs.Row.{get}
 use Rattle.rows.specs.Item.{items}
 use Rattle.rows.specs.Shelf.{shelves}
@@ -18,7 +17,7 @@ use Rattle.rows.specs.declared.shelf.ShelfRow.{ShelfRow}
 use Rattle.rules.specs.Atlas.{Item, Shelf, Atlas}
 use Rattle.rules.specs.Grant.{holding}
 use Rattle.rules.specs.Release.{Loose, Stack, Found, mergeNext, mergeInto, mergeBelow, mergeAbove, releaseFound}
-use Rattle.rules.specs.Lies.{Lies, headerOf, roomIn}
+use Rattle.rules.specs.Lies.{free, Lies, headerOf, roomIn}
 use Rattle.rules.specs.Keeps.{itemRows, allItemRows, AllListed, FreeListed, Shaped, Keeps}
 use Rattle.reading.proofs.Unique.{free-row}
 use Rattle.keeps.proofs.Finding.{FoundAt}
@@ -27,6 +26,7 @@ use Rattle.keeps.proofs.ReleaseShaped.{release-shape}
 use Rattle.steps.specs.State.{State, state}
 use Rattle.steps.specs.Live.{atRow}
 use Rattle.steps.specs.Release.{mergeBelow as mergeBelowAt, mergeAbove as mergeAboveAt, releaseItem, releaseAt}
+use Rattle.finding.proofs.Looking.{found-used}
 use Rattle.finding.proofs.Narrow.{shaped-narrow, shelf-narrow}
 use Rattle.opening.proofs.Standing.{Stands, NarrowShelf, onRow, shelf-says}
 use Rattle.opening.proofs.Placing.{names-shelf}
@@ -37,7 +37,7 @@ use Rattle.stacking.proofs.Merging.{merge-both}
 use Rattle.bridge.specs.After.{Becomes}
 use Rattle.bridge.proofs.Outcome.{becomes}
 use Rattle.bridge.proofs.Inward.{Below}
-use Rattle.bridge.proofs.Served.{inward, head-below}
+use Rattle.bridge.proofs.Served.{first-below, inward, head-below}
 use Rattle.bridge.proofs.Loosed.{released-items, released-shelves}
 use Rattle.bridge.proofs.Depths.{SameUse, loose-use, stack-use, low-below, low-above}
 
@@ -64,10 +64,7 @@ module _ (h : Header) (S I : List ℕ) (a : Atlas) (lies : Lies h S I a) (keeps 
   -- ---- the item is in use, and so is its shelf
 
   item-used : i .row < a .rows .items .used
-  item-used =
-      let mine : i .row ∈ itemRows (s .items) = rw (found .1) (in-onto (λ (q : Item). q .row ∷ []) (i .row) (w .item .before) (i ∷ w .item .after) (inr (List·Memᴰ·head refl))) in
-      keeps .sound .item-rows .serving-used (i .row)
-      (rw (found .0) (in-onto (λ (q : Shelf). itemRows (q .items)) (i .row) (w .shelf .before) (s ∷ w .shelf .after) (inr (Memᴰ·append-left (allItemRows (w .shelf .after)) mine))))
+  item-used = found-used h S I a lies keeps w (i .row) (found .0, found .1, refl)
 
   shelf-used : s .row < a .rows .shelves .used
   shelf-used =
@@ -83,16 +80,13 @@ module _ (h : Header) (S I : List ℕ) (a : Atlas) (lies : Lies h S I a) (keeps 
   narrow-here : NarrowShelf s
   narrow-here = shelf-narrow a (keeps .shaped) (w .shelf .before) s (w .shelf .after) (found .0)
 
-  -- a free list starts with a row in use, or with none
-  first-free : (fl : List ℕ) → ((r : ℕ) → r ∈ fl → r < a .rows .items .used) → Below (a .rows .items .used) (firstOf fl)
-  first-free [] b = inr refl
-  first-free (r ∷ fl) b = inl (b r (List·Memᴰ·head refl))
-
-  first-below : Below (a .rows .items .used) (get shelves S (s .row) .«first_unallocated» .0)
-  first-below =
+  -- its free list starts with a row in use, or with none
+  free-head : Below (a .rows .items .used) (get shelves S (s .row) .«first_unallocated» .0)
+  free-head =
+      let mine : (r : ℕ) → r ∈ s .free → r ∈ itemRows (s .items) = λ r m. free-row (s .items) r (listed .only r m) in
       subst (Below (a .rows .items .used)) (sym (ap (λ (v : ShelfRow). v .«first_unallocated» .0) (shelf-says st a stands (w .shelf .before) s (w .shelf .after) (found .0))))
-      (first-free (s .free) (λ r m. keeps .sound .item-rows .serving-used r
-      (rw (found .0) (in-onto (λ (q : Shelf). itemRows (q .items)) r (w .shelf .before) (s ∷ w .shelf .after) (inr (Memᴰ·append-left (allItemRows (w .shelf .after)) (free-row (s .items) r (listed .only r m))))))))
+      (first-below free (a .rows .items .used) (s .free) (λ r m. keeps .sound .item-rows .serving-used r
+      (rw (found .0) (in-onto (λ (q : Shelf). itemRows (q .items)) r (w .shelf .before) (s ∷ w .shelf .after) (inr (Memᴰ·append-left (allItemRows (w .shelf .after)) (mine r (rw self at m))))))))
 
   freed-head : Below (a .rows .items .used) (h .«free_items» .0)
   unfolding headerOf
@@ -119,7 +113,7 @@ module _ (h : Header) (S I : List ℕ) (a : Atlas) (lies : Lies h S I a) (keeps 
   loosened = record {
     stands = release-stands st a w (found .0) (found .1) was-live all stands narrow-here (shaped-narrow a (keeps .shaped) .total);
     shelves-past = released-shelves st (onRow (s .row)) (atRow (i .row)) (m .rows .shelves .used) (omega (arith, as-used .shelves, shelf-used));
-    items-past = rw (as-used .items) (released-items st (onRow (s .row)) (atRow (i .row)) (a .rows .items .used) (inward st a stands (keeps .shaped .all-listed) (omega (arith, item-used))) freed-head first-below (inl item-used));
+    items-past = rw (as-used .items) (released-items st (onRow (s .row)) (atRow (i .row)) (a .rows .items .used) (inward st a stands (keeps .shaped .all-listed) (omega (arith, item-used))) freed-head free-head (inl item-used));
   }
 
   -- ---- the shelves merged

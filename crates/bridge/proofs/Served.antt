@@ -34,7 +34,8 @@ pub record Between {E C : Type 0} (k : Kind E C) (n : ℕ) (here : C) : Type 0 w
   pub before-below : Below n before
   pub after-below : Below n after
 
-first-below : {E C : Type 0} (k : Kind E C) (n : ℕ) (xs : List E) → ((r : ℕ) → r ∈ rowsOf k xs → r < n) → Below n (firstRow (k .row) xs)
+-- a chain starts with a row of its own, or with none
+pub first-below : {E C : Type 0} (k : Kind E C) (n : ℕ) (xs : List E) → ((r : ℕ) → r ∈ rowsOf k xs → r < n) → Below n (firstRow (k .row) xs)
 first-below k n [] b = inr refl
 first-below k n (x ∷ xs) b = inl (b (k .row x) (List·Memᴰ·head refl))
 
