@@ -1,1 +1,2 @@
 pub mod BandTable
+pub mod Signed

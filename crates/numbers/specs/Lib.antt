@@ -3,3 +3,8 @@ pub mod Index
 pub mod Round
 pub mod Bands
 pub mod Fit
+pub mod Tests
+pub mod Axes
+pub mod Sides
+pub mod Request
+pub mod Limits

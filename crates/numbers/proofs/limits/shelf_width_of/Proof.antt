@@ -1,0 +1,29 @@
+use Prim.Native.Nat.{_/_}
+use mathlib.Core.Path.{_≡_, refl, sym}
+use native.Mathlib.Nat.{div-zero, mod-zero, mod-le}
+use native.Mathlib.Omega.{arith}
+use borrow.Author.Needs.{needs}
+use Rattle.numbers.specs.Limits.{shelfWidthOf}
+use Rattle.numbers.proofs.limits.shelf_width_of.Statement.{statement}
+use Rattle.numbers.proofs.limits.shelf_width_of.Tie as tie
+
+returns : tie.Need-returns
+unfolding shelfWidthOf
+returns c = rw (c .if1 .taken, div-zero) (omega arith)
+
+returns-2 : tie.Need-returns-2
+unfolding shelfWidthOf
+returns-2 c = rw (c .if2 .taken, mod-zero) (omega arith)
+
+sub-result : tie.Need-sub-result
+sub-result c =
+    let s = c .before .before in
+    mod-le (s .args .width / s .args .columns) (s .args .step)
+
+returns-3 : tie.Need-returns-3
+unfolding shelfWidthOf
+returns-3 c = refl
+
+pub shelf-width-of-spec : {M : Type 1} → statement M
+shelf-width-of-spec =
+    tie.close (tie.spec returns returns-2 (λ c. search needs) (λ c. search needs) sub-result returns-3)

@@ -1,0 +1,46 @@
+use Prim.Native.Nat.{min}
+use mathlib.Core.Path.{_≡_, sym, _∙_}
+use mathlib.Core.Bool.{true, false}
+use native.Mathlib.Omega.{arith}
+use lib.IntN.{pos}
+use lib.Signed.{ltZ}
+use mir.Syntax.{w32}
+use mir.Val.{toZ, ofZ}
+use mir.Facts.{toZ-ofZ}
+use borrow.Author.Needs.{needs}
+use Rattle.numbers.specs.Sides.{flagOf, natural, flag-negative, flag-positive}
+use Rattle.numbers.proofs.Signed.{as-given}
+use Rattle.numbers.proofs.sides.flag_of.Statement.{statement}
+use Rattle.numbers.proofs.sides.flag_of.Tie as tie
+use Rattle.numbers.proofs.sides.flag_of.Reads as reads
+use Rattle.numbers.proofs.sides.flag_of.Lts as lts
+use Rattle.numbers.proofs.sides.natural_of.Reads as natural-of-reads
+
+returns : tie.Need-returns
+returns c =
+    let s = c .before in
+    let t : ltZ (toZ w32 (ofZ w32 (s .args .raw))) (pos 0) ≡ true = c .if1 .taken in
+    sym (flag-negative (s .args .raw) (simp (toZ-ofZ (s .fits .raw)) at t))
+
+natural-of-requires : tie.Need-natural-of-requires
+natural-of-requires c κs = search needs
+
+cast-result : tie.Need-cast-result
+cast-result c = search needs
+
+returns-2 : tie.Need-returns-2
+returns-2 c =
+    let s = c .before .before .before in
+    let t : ltZ (toZ w32 (ofZ w32 (s .args .raw))) (pos 0) ≡ false = c .before .before .if1 .left in
+    let e : c .before .natural-of .result ≡ natural (s .args .raw) = as-given natural (s .fits .raw) (c .before .natural-of .ensures) in
+    omega (arith, flag-positive (s .args .raw) (simp (toZ-ofZ (s .fits .raw)) at t))
+
+returns-3 : tie.Need-returns-3
+returns-3 c =
+    let s = c .before .before .before in
+    let t : ltZ (toZ w32 (ofZ w32 (s .args .raw))) (pos 0) ≡ false = c .before .before .if1 .left in
+    let e : c .before .natural-of .result ≡ natural (s .args .raw) = as-given natural (s .fits .raw) (c .before .natural-of .ensures) in
+    omega (arith, flag-positive (s .args .raw) (simp (toZ-ofZ (s .fits .raw)) at t))
+
+pub flag-of-spec : {M : Type 1} → statement M
+flag-of-spec = tie.close (tie.spec returns natural-of-requires cast-result returns-2 returns-3)

@@ -1,0 +1,71 @@
+-- Raw numbers, as a caller gives them, and the limits that they are judged by. Assumes nothing.
+use Prim.Native.Nat.{ℕ, min, _≤_}
+use mathlib.Core.Path.{_≡_, refl, sym}
+use mathlib.Core.Bool.{Bool, true, false, _&&_, false≢true}
+use native.Mathlib.Omega.{arith}
+use lib.Dec.{T, leb}
+use lib.IntN.{ℤ, pos, negsuc, natAbs}
+use lib.Signed.{ltZ, nonNeg}
+use borrow.Author.Tests.{ltb-true, leb-true}
+use Rattle.numbers.specs.declared.sides.Side.{Side}
+use Rattle.numbers.specs.declared.sides.Side.the-variants.{Fits, Bad}
+use Rattle.numbers.specs.Tests.{both}
+use Rattle.numbers.specs.Pick.{pick, pick-yes, pick-no}
+
+-- from 1 to a greatest number
+unfoldable pub oneTo : ℕ → ℕ → Bool
+oneTo most n = leb 1 n && leb n most
+
+-- a raw number; a negative one is outside every limit that starts at 1, as 0 is, and is read as 0
+unfoldable pub natural : ℤ → ℕ
+natural (pos n) = n
+natural (negsuc n) = 0
+
+-- a raw flag: 0 and 1 as they are, 2 for any other
+unfoldable pub flagOf : ℤ → ℕ
+flagOf (pos n) = min n 2
+flagOf (negsuc n) = 2
+
+-- a side of 1 to 65535; 0, negative or over 65535 is bad
+unfoldable pub sideOf : ℤ → Side
+unfolding oneTo natural
+sideOf raw = pick (oneTo 65535 (natural raw)) (Fits (natural raw)) Bad
+
+-- ---- laws
+
+-- what the test says
+pub one-to-true : (most n : ℕ) → oneTo most n ≡ true → (1 ≤ n) × (n ≤ most)
+unfolding oneTo
+one-to-true most n e =
+    let t = both (leb 1 n) (leb n most) e in
+    (leb-true 1 n (t .0), leb-true n most (t .1))
+
+-- a raw number's tests, by cases on its sign
+pub natural-negative : (z : ℤ) → ltZ z (pos 0) ≡ true → natural z ≡ 0
+unfolding natural
+natural-negative (pos n) h = absurd (omega (arith, ltb-true n 0 h))
+natural-negative (negsuc n) h = refl
+
+pub natural-positive : (z : ℤ) → ltZ z (pos 0) ≡ false → T (nonNeg z) × (natAbs z ≡ natural z)
+unfolding natural
+natural-positive (pos n) h = (tt, refl)
+natural-positive (negsuc n) h = absurd (false≢true (sym h))
+
+pub flag-negative : (z : ℤ) → ltZ z (pos 0) ≡ true → flagOf z ≡ 2
+unfolding flagOf
+flag-negative (pos n) h = absurd (omega (arith, ltb-true n 0 h))
+flag-negative (negsuc n) h = refl
+
+pub flag-positive : (z : ℤ) → ltZ z (pos 0) ≡ false → flagOf z ≡ min (natural z) 2
+unfolding natural flagOf
+flag-positive (pos n) h = refl
+flag-positive (negsuc n) h = absurd (false≢true (sym h))
+
+module _ (z : ℤ) (n : ℕ) (is : n ≡ natural z) where
+  pub side-fits : oneTo 65535 n ≡ true → sideOf z ≡ Fits n
+  unfolding sideOf
+  side-fits h = rw (← is) (pick-yes (Fits n) Bad h)
+
+  pub side-bad : oneTo 65535 n ≡ false → sideOf z ≡ Bad
+  unfolding sideOf
+  side-bad h = rw (← is) (pick-no (Fits n) Bad h)
