@@ -8,3 +8,6 @@ pub mod Axes
 pub mod Sides
 pub mod Request
 pub mod Limits
+pub mod Created
+pub mod Examples
+pub mod Placeable

@@ -1,13 +1,12 @@
 -- A request as an allocator takes it up: its sides aligned, judged and rounded. Assumes nothing.
 use Prim.Native.Nat.{ℕ, _<_, _≤_}
 use mathlib.Core.Path.{_≡_, refl}
-use mathlib.Core.Bool.{Bool, _&&_, and-false}
+use mathlib.Core.Bool.{_&&_, and-false}
 use lib.Dec.{leb}
 use borrow.Author.Tests.{le-leb, lt-leb}
 use lib.IntN.{ℤ}
 use Rattle.numbers.specs.declared.sides.Side.{Side}
 use Rattle.numbers.specs.declared.sides.Side.the-variants.{Fits, Bad}
-use Rattle.numbers.specs.declared.request.Asked.{Asked}
 use Rattle.numbers.specs.declared.request.Request.{Request}
 use Rattle.numbers.specs.declared.request.Request.the-variants.{Good, Refused}
 use Rattle.numbers.specs.Pick.{pick}

@@ -1,8 +1,7 @@
 -- A number rounded up to a multiple of a step, and the law of it for any step of at least 1. Assumes nothing.
 use Prim.Native.Nat.{ℕ, suc, _+_, _-_, _*_, _/_, _%_, _<_, _≤_}
-use mathlib.Core.Path.{_≡_, refl, sym, ap, _∙_, subst}
-use mathlib.Core.Logic.{⊎-elim}
-use native.Mathlib.Nat.{mod-zero, mod-lt, div-add-mod', mul-mod-left, suc-mul, div-lt-iff-lt-mul, mul-le-mul-right}
+use mathlib.Core.Path.{_≡_}
+use native.Mathlib.Nat.{mod-lt, div-add-mod', mul-mod-left, suc-mul, div-lt-iff-lt-mul, mul-le-mul-right}
 use native.Mathlib.Decide.{ℕ-discrete, decLt}
 use native.Mathlib.Omega.{arith}
 use lib.Dec.{eqb}

@@ -69,3 +69,13 @@ module _ (z : ℤ) (n : ℕ) (is : n ≡ natural z) where
   pub side-bad : oneTo 65535 n ≡ false → sideOf z ≡ Bad
   unfolding sideOf
   side-bad h = rw (← is) (pick-no (Fits n) Bad h)
+
+-- a side that fits lies from 1 to 65535
+pub side-range : (z : ℤ) (n : ℕ) → sideOf z ≡ Fits n → (1 ≤ n) × (n ≤ 65535)
+unfolding sideOf
+side-range z n e = go (oneTo 65535 (natural z)) refl e where
+  go : (b : Bool) → oneTo 65535 (natural z) ≡ b → pick b (Fits (natural z)) Bad ≡ Fits n → (1 ≤ n) × (n ≤ 65535)
+  go true t e =
+      let is : natural z ≡ n = cc in
+      rw (← is) (one-to-true 65535 (natural z) t)
+  go false t e = absurd (let z : _≡_ {A = ℕ} 0 1 = cc in omega arith)

@@ -1,6 +1,7 @@
 // Create's numbers, and the limits that every header keeps.
 ghost use mathlib.Core.Path.{_≡_};
-ghost use Rattle.numbers.specs.Limits.{sizesGood, optionsGood, shelfWidthOf, columnsOf, withinLimits};
+ghost use Rattle.numbers.specs.Limits.{sizesGood, optionsGood, shelfWidthGood, withinLimits};
+ghost use Rattle.numbers.specs.Limits.{shelfWidthOf, columnsOf, limitsFor, judgedLimits, createNumbers};
 use crate::axes::along;
 use crate::axes::deep;
 use crate::sides::flag_of;
@@ -70,4 +71,86 @@ pub fn columns(width: u16, shelf_width: u16) -> u16
         return 0;
     }
     width / shelf_width
+}
+
+// S lies from 1 to W and is a multiple of the step.
+pub fn shelf_width_good(width: u32, shelf_width: u32, step: u32) -> bool
+    ensures { λ r. ⌜ r ≡ shelfWidthGood width «shelf_width» step ⌝ }
+{
+    if !one_to(width, shelf_width) {
+        return false;
+    }
+    if step == 0 {
+        return false;
+    }
+    shelf_width % step == 0
+}
+
+pub fn within_limits(l: Limits) -> bool
+    ensures { λ r. ⌜ r ≡ withinLimits l ⌝ }
+{
+    if !sizes_good(l.width as u32, l.height as u32) {
+        return false;
+    }
+    if !options_good(l.align_width as u32, l.align_height as u32, l.vertical) {
+        return false;
+    }
+    let step = along(l.vertical, l.align_width as u32, l.align_height as u32);
+    shelf_width_good(l.width as u32, l.shelf_width as u32, step)
+}
+
+// Answer 1, then answer 2, on numbers that are no longer signed.
+pub fn judge_limits(
+    w: u32,
+    h: u32,
+    align_width: u32,
+    align_height: u32,
+    vertical: u16,
+    columns: u32,
+) -> Made
+    ensures { λ r. ⌜ r ≡ judgedLimits columns (limitsFor w h «align_width» «align_height» vertical columns) ⌝ }
+{
+    let width = along(vertical, w, h);
+    let height = deep(vertical, w, h);
+    if !sizes_good(width, height) {
+        return Made::Refused(1);
+    }
+    if !options_good(align_width, align_height, vertical) {
+        return Made::Refused(2);
+    }
+    if columns < 1 {
+        return Made::Refused(2);
+    }
+    let shelf_width = shelf_width_of(width, columns, along(vertical, align_width, align_height));
+    if shelf_width < 1 {
+        return Made::Refused(2);
+    }
+    Made::Good(Limits {
+        width: width as u16,
+        height: height as u16,
+        align_width: align_width as u16,
+        align_height: align_height as u16,
+        vertical: vertical,
+        shelf_width: shelf_width as u16,
+    })
+}
+
+pub fn create_numbers(
+    w: i32,
+    h: i32,
+    align_width: i32,
+    align_height: i32,
+    vertical: i32,
+    columns: i32,
+) -> Made
+    ensures { λ r. ⌜ r ≡ createNumbers w h «align_width» «align_height» vertical columns ⌝ }
+{
+    judge_limits(
+        natural_of(w),
+        natural_of(h),
+        natural_of(align_width),
+        natural_of(align_height),
+        flag_of(vertical),
+        natural_of(columns),
+    )
 }

@@ -1,5 +1,5 @@
-use Prim.Native.Nat.{ℕ, suc, _+_, _-_, _≤_, _<_}
-use mathlib.Core.Path.{_≡_, refl, sym, _∙_}
+use Prim.Native.Nat.{_-_, _≤_}
+use mathlib.Core.Path.{_≡_, sym, _∙_}
 use native.Mathlib.Omega.{arith}
 use borrow.Author.Needs.{needs}
 use lib.ListN.{drop}
@@ -7,9 +7,6 @@ use Rattle.numbers.specs.Bands.{depthBand}
 use Rattle.numbers.proofs.BandTable.{bandFrom, bands, reached, passed, band-rule, last-band}
 use Rattle.numbers.proofs.bands.depth_band.Statement.{statement}
 use Rattle.numbers.proofs.bands.depth_band.Tie as tie
-use Rattle.numbers.proofs.bands.depth_band.Reads as reads
-use Rattle.numbers.proofs.bands.depth_band.Lts as lts
-use Rattle.numbers.proofs.bands.wide.Reads as wide-reads
 
 -- the band from here on is the band of the depth
 abbrev Inv-loop : tie.InvT-loop

@@ -1,13 +1,9 @@
 use native.Mathlib.Omega.{arith}
-use mathlib.Core.Path.{_≡_, refl, sym, _∙_}
 use borrow.Author.Needs.{needs}
 use Rattle.numbers.specs.Bands.{four-bands}
 use Rattle.numbers.proofs.BandTable.{step-rule}
 use Rattle.numbers.proofs.bands.depth_step.Statement.{statement}
 use Rattle.numbers.proofs.bands.depth_step.Tie as tie
-use Rattle.numbers.proofs.bands.depth_step.Reads as reads
-use Rattle.numbers.proofs.bands.depth_step.Lts as lts
-use Rattle.numbers.proofs.bands.depth_band.Reads as depth-band-reads
 
 depth-band-requires : tie.Need-depth-band-requires
 depth-band-requires c κs = search needs

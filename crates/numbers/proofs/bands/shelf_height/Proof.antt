@@ -1,13 +1,9 @@
 use native.Mathlib.Omega.{arith}
-use mathlib.Core.Path.{_≡_, refl, sym, _∙_}
+use mathlib.Core.Path.{sym}
 use borrow.Author.Needs.{needs}
 use Rattle.numbers.specs.Bands.{height-rounded, height-kept}
 use Rattle.numbers.proofs.bands.shelf_height.Statement.{statement}
 use Rattle.numbers.proofs.bands.shelf_height.Tie as tie
-use Rattle.numbers.proofs.bands.shelf_height.Reads as reads
-use Rattle.numbers.proofs.bands.shelf_height.Lts as lts
-use Rattle.numbers.proofs.bands.depth_step.Reads as depth-step-reads
-use Rattle.numbers.proofs.round.adjust_size.Reads as adjust-size-reads
 
 depth-step-requires : tie.Need-depth-step-requires
 depth-step-requires c κs = search needs

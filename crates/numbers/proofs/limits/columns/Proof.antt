@@ -1,4 +1,4 @@
-use mathlib.Core.Path.{_≡_, refl, sym}
+use mathlib.Core.Path.{refl, sym}
 use native.Mathlib.Nat.{div-zero}
 use borrow.Author.Needs.{needs}
 use Rattle.numbers.specs.Limits.{columnsOf}

@@ -1,5 +1,5 @@
 use Prim.Native.Nat.{_/_}
-use mathlib.Core.Path.{_≡_, refl, sym}
+use mathlib.Core.Path.{refl}
 use native.Mathlib.Nat.{div-zero, mod-zero, mod-le}
 use native.Mathlib.Omega.{arith}
 use borrow.Author.Needs.{needs}

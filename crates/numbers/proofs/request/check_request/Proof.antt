@@ -5,46 +5,31 @@ use Rattle.numbers.proofs.Signed.{as-given}
 use borrow.Author.Needs.{needs}
 use Rattle.numbers.proofs.request.check_request.Statement.{statement}
 use Rattle.numbers.proofs.request.check_request.Tie as tie
-use Rattle.numbers.proofs.request.check_request.Reads as reads
-use Rattle.numbers.proofs.request.check_request.Lts as lts
-use Rattle.numbers.proofs.axes.along.Reads as along-reads
-use Rattle.numbers.proofs.axes.deep.Reads as deep-reads
-use Rattle.numbers.proofs.request.within.Reads as within-reads
-use Rattle.numbers.proofs.round.adjust_size.Reads as adjust-size-reads
-use Rattle.numbers.proofs.sides.side_of.Reads as side-of-reads
 
--- src/request.rt:50:9
 side-of-requires : tie.Need-side-of-requires
 side-of-requires c κs = search needs
 
--- src/request.rt:51:20
 enum-known-across : tie.Need-enum-known-across
 enum-known-across c = search needs
 
--- src/request.rt:52:9
 enum-told : tie.Need-enum-told
 enum-told c = search needs
 
--- src/request.rt:52:9
 returns : tie.Need-returns
 returns c =
     let s = c .before .before .before in
     let e : c .before .before .side-of .result ≡ sideOf (s .args .w) = as-given sideOf (s .fits .w) (c .before .before .side-of .ensures) in
     sym (bad-width _ _ _ _ _ (s .args .w) (s .args .h) (sym e ∙ c .enum-told .given .1))
 
--- src/request.rt:54:9
 side-of-requires-2 : tie.Need-side-of-requires-2
 side-of-requires-2 c κs = search needs
 
--- src/request.rt:55:20
 enum-known-down : tie.Need-enum-known-down
 enum-known-down c = search needs
 
--- src/request.rt:56:9
 enum-told-2 : tie.Need-enum-told-2
 enum-told-2 c = search needs
 
--- src/request.rt:56:9
 returns-2 : tie.Need-returns-2
 returns-2 c =
     let k = c .before .before .before in
@@ -52,27 +37,21 @@ returns-2 c =
     let e = as-given sideOf (s .fits .h) (c .before .before .side-of2 .ensures) in
     sym (bad-height _ _ _ _ _ (s .args .w) (s .args .h) (sym e ∙ c .enum-told2 .given .1))
 
--- src/request.rt:58:9
 adjust-size-requires : tie.Need-adjust-size-requires
 adjust-size-requires c κs = search needs
 
--- src/request.rt:59:9
 adjust-size-requires-2 : tie.Need-adjust-size-requires-2
 adjust-size-requires-2 c κs = search needs
 
--- src/request.rt:60:12
 along-requires : tie.Need-along-requires
 along-requires c κs = search needs
 
--- src/request.rt:60:35
 deep-requires : tie.Need-deep-requires
 deep-requires c κs = search needs
 
--- src/request.rt:60:5
 within-requires : tie.Need-within-requires
 within-requires c κs = search needs
 
--- src/request.rt:39:1
 returns-3 : tie.Need-returns-3
 unfolding aligned
 returns-3 c =

@@ -1,12 +1,9 @@
-use mathlib.Core.Path.{_≡_, sym, _∙_}
+use mathlib.Core.Path.{sym}
 use native.Mathlib.Omega.{arith}
 use borrow.Author.Needs.{needs}
 use Rattle.numbers.specs.Request.{too-wide, too-deep, fitting}
 use Rattle.numbers.proofs.request.within.Statement.{statement}
 use Rattle.numbers.proofs.request.within.Tie as tie
-use Rattle.numbers.proofs.request.within.Reads as reads
-use Rattle.numbers.proofs.request.within.Lts as lts
-use Rattle.numbers.proofs.bands.shelf_height.Reads as shelf-height-reads
 
 returns : tie.Need-returns
 returns c = sym (too-wide _ _ _ _ (omega arith))

@@ -1,12 +1,10 @@
-use mathlib.Core.Path.{_≡_, refl, sym, _∙_}
+use mathlib.Core.Path.{sym}
 use native.Mathlib.Nat.{mod-lt}
 use native.Mathlib.Omega.{arith}
 use borrow.Author.Needs.{needs}
-use Rattle.numbers.specs.Round.{roundUp, round-none, round-exact, round-over}
+use Rattle.numbers.specs.Round.{round-none, round-exact, round-over}
 use Rattle.numbers.proofs.round.adjust_size.Statement.{statement}
 use Rattle.numbers.proofs.round.adjust_size.Tie as tie
-use Rattle.numbers.proofs.round.adjust_size.Reads as reads
-use Rattle.numbers.proofs.round.adjust_size.Lts as lts
 
 returns : tie.Need-returns
 returns c = rw (c .if1 .taken) (sym (round-none _))

@@ -1,5 +1,4 @@
-use Prim.Native.Nat.{min}
-use mathlib.Core.Path.{_≡_, sym, _∙_}
+use mathlib.Core.Path.{_≡_, sym}
 use mathlib.Core.Bool.{true, false}
 use native.Mathlib.Omega.{arith}
 use lib.IntN.{pos}
@@ -8,13 +7,10 @@ use mir.Syntax.{w32}
 use mir.Val.{toZ, ofZ}
 use mir.Facts.{toZ-ofZ}
 use borrow.Author.Needs.{needs}
-use Rattle.numbers.specs.Sides.{flagOf, natural, flag-negative, flag-positive}
+use Rattle.numbers.specs.Sides.{natural, flag-negative, flag-positive}
 use Rattle.numbers.proofs.Signed.{as-given}
 use Rattle.numbers.proofs.sides.flag_of.Statement.{statement}
 use Rattle.numbers.proofs.sides.flag_of.Tie as tie
-use Rattle.numbers.proofs.sides.flag_of.Reads as reads
-use Rattle.numbers.proofs.sides.flag_of.Lts as lts
-use Rattle.numbers.proofs.sides.natural_of.Reads as natural-of-reads
 
 returns : tie.Need-returns
 returns c =

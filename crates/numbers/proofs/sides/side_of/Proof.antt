@@ -1,14 +1,10 @@
-use mathlib.Core.Path.{_≡_, sym, _∙_}
+use mathlib.Core.Path.{sym, _∙_}
 use native.Mathlib.Omega.{arith}
 use borrow.Author.Needs.{needs}
 use Rattle.numbers.specs.Sides.{natural, one-to-true, side-fits, side-bad}
 use Rattle.numbers.proofs.Signed.{as-given}
 use Rattle.numbers.proofs.sides.side_of.Statement.{statement}
 use Rattle.numbers.proofs.sides.side_of.Tie as tie
-use Rattle.numbers.proofs.sides.side_of.Reads as reads
-use Rattle.numbers.proofs.sides.side_of.Lts as lts
-use Rattle.numbers.proofs.sides.natural_of.Reads as natural-of-reads
-use Rattle.numbers.proofs.sides.one_to.Reads as one-to-reads
 
 natural-of-requires : tie.Need-natural-of-requires
 natural-of-requires c κs = search needs

@@ -1,0 +1,56 @@
+use mathlib.Core.Path.{_≡_}
+use Rattle.numbers.specs.Sides.{natural, flagOf}
+use Rattle.numbers.specs.Limits.{createNumbers}
+use Rattle.numbers.proofs.Signed.{as-given}
+use borrow.Author.Needs.{needs}
+use Rattle.numbers.proofs.limits.create_numbers.Statement.{statement}
+use Rattle.numbers.proofs.limits.create_numbers.Tie as tie
+
+natural-of-requires : tie.Need-natural-of-requires
+natural-of-requires c κs = search needs
+
+natural-of-requires-2 : tie.Need-natural-of-requires-2
+natural-of-requires-2 c κs = search needs
+
+natural-of-requires-3 : tie.Need-natural-of-requires-3
+natural-of-requires-3 c κs = search needs
+
+natural-of-requires-4 : tie.Need-natural-of-requires-4
+natural-of-requires-4 c κs = search needs
+
+flag-of-requires : tie.Need-flag-of-requires
+flag-of-requires c κs = search needs
+
+natural-of-requires-5 : tie.Need-natural-of-requires-5
+natural-of-requires-5 c κs = search needs
+
+judge-limits-requires : tie.Need-judge-limits-requires
+judge-limits-requires c κs = search needs
+
+returns : tie.Need-returns
+unfolding createNumbers
+returns c =
+    let e = c .before in
+    let d = e .before in
+    let f = d .before in
+    let s = f .before .before .before .before in
+    let w : f .before .before .before .natural-of .result ≡ natural (s .args .w) = as-given natural (s .fits .w) (f .before .before .before .natural-of .ensures) in
+    let h : f .before .before .natural-of2 .result ≡ natural (s .args .h) = as-given natural (s .fits .h) (f .before .before .natural-of2 .ensures) in
+    let x : f .before .natural-of3 .result ≡ natural (s .args .align-width) = as-given natural (s .fits .align-width) (f .before .natural-of3 .ensures) in
+    let y : f .natural-of4 .result ≡ natural (s .args .align-height) = as-given natural (s .fits .align-height) (f .natural-of4 .ensures) in
+    let v : d .flag-of .result ≡ flagOf (s .args .vertical) = as-given flagOf (s .fits .vertical) (d .flag-of .ensures) in
+    let n : e .natural-of5 .result ≡ natural (s .args .columns) = as-given natural (s .fits .columns) (e .natural-of5 .ensures) in
+    rw (c .judge-limits .ensures, w, h, x, y, v, n)
+
+pub create-numbers-spec : {M : Type 1} → statement M
+create-numbers-spec =
+    tie.close
+    (tie.spec
+    natural-of-requires
+    natural-of-requires-2
+    natural-of-requires-3
+    natural-of-requires-4
+    flag-of-requires
+    natural-of-requires-5
+    judge-limits-requires
+    returns)
