@@ -17,10 +17,12 @@ use Rattle.numbers.specs.Sides.{oneTo, natural, flagOf, one-to-true}
 
 -- W 1 to 65535, H 1 to 65527, W x H at most 2147483647
 unfoldable pub sizesGood : ℕ → ℕ → Bool
+unfolding oneTo
 sizesGood width height = oneTo 65535 width && (oneTo 65527 height && leb (width * height) 2147483647)
 
 -- alignments 1 to 65535, vertical 0 or 1
 unfoldable pub optionsGood : ℕ → ℕ → ℕ → Bool
+unfolding oneTo
 optionsGood alignWidth alignHeight vertical =
     oneTo 65535 alignWidth && (oneTo 65535 alignHeight && leb vertical 1)
 
@@ -38,10 +40,12 @@ columnsOf width shelfWidth = width / shelfWidth
 
 -- the alignment along the shelves
 unfoldable pub alongStep : Limits → ℕ
+unfolding along
 alongStep l = along (l .vertical) (l .«align_width») (l .«align_height»)
 
 -- the audit's first rule, as far as it speaks of these six numbers
 unfoldable pub withinLimits : Limits → Bool
+unfolding sizesGood optionsGood oneTo alongStep
 withinLimits l =
     sizesGood (l .width) (l .height)
     && (optionsGood (l .«align_width») (l .«align_height») (l .vertical)
@@ -49,6 +53,7 @@ withinLimits l =
 
 -- the six numbers of a create: W and H are the sizes along and deep
 unfoldable pub limitsFor : ℕ → ℕ → ℕ → ℕ → ℕ → ℕ → Limits
+unfolding shelfWidthOf along deep
 limitsFor w h alignWidth alignHeight vertical columns = record {
   width = along vertical w h;
   height = deep vertical w h;
@@ -60,6 +65,7 @@ limitsFor w h alignWidth alignHeight vertical columns = record {
 
 -- answer 1 for the sizes; then answer 2 for the options, for no column, and for an S of 0
 unfoldable pub judgedLimits : ℕ → Limits → Made
+unfolding sizesGood optionsGood
 judgedLimits columns l =
     pick (sizesGood (l .width) (l .height))
     (pick (optionsGood (l .«align_width») (l .«align_height») (l .vertical) && (leb 1 columns && leb 1 (l .«shelf_width»)))
@@ -69,6 +75,7 @@ judgedLimits columns l =
 
 -- create's numbers, as they are given; a vertical that is neither 0 nor 1 leaves x and y in place, and is answer 2
 unfoldable pub createNumbers : ℤ → ℤ → ℤ → ℤ → ℤ → ℤ → Made
+unfolding judgedLimits limitsFor natural flagOf
 createNumbers w h alignWidth alignHeight vertical columns =
     judgedLimits (natural columns)
     (limitsFor (natural w) (natural h) (natural alignWidth) (natural alignHeight) (flagOf vertical) (natural columns))

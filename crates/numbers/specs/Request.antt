@@ -17,6 +17,7 @@ use Rattle.numbers.specs.Sides.{sideOf}
 
 -- answer 5 where the aligned width or depth passes the shelf width or the atlas; else the depth is rounded up to its step
 unfoldable pub askedWithin : ℕ → ℕ → ℕ → ℕ → Request
+unfolding shelfHeight
 askedWithin shelfWidth atlasDepth width depth =
     pick (leb width shelfWidth && leb depth atlasDepth)
     (Good (record { width = width; depth = shelfHeight atlasDepth depth }))
@@ -40,18 +41,21 @@ module _ (shelfWidth atlasDepth width depth : ℕ) where
 -- answer 4 is decided on the raw sides; then each side is rounded up to its own alignment
 module _ (alignWidth alignHeight vertical shelfWidth atlasDepth : ℕ) where
   unfoldable pub aligned : ℕ → ℕ → Request
+  unfolding askedWithin roundUp along deep
   aligned w h =
       askedWithin shelfWidth atlasDepth
       (along vertical (roundUp alignWidth w) (roundUp alignHeight h))
       (deep vertical (roundUp alignWidth w) (roundUp alignHeight h))
 
   unfoldable pub judged : Side → Side → Request
+  unfolding aligned
   judged (Fits w) (Fits h) = aligned w h
   judged (Fits w) Bad = Refused 4
   judged Bad h = Refused 4
 
   -- what a request of raw sides asks, or its refusal
   unfoldable pub asked : ℤ → ℤ → Request
+  unfolding judged sideOf
   asked w h = judged (sideOf w) (sideOf h)
 
   pub bad-width : (w h : ℤ) → sideOf w ≡ Bad → asked w h ≡ Refused 4

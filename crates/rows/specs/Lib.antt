@@ -6,3 +6,5 @@ pub mod Shelf
 pub mod Item
 pub mod Views
 pub mod Pool
+pub mod PoolLaws
+pub mod Unread

@@ -4,8 +4,8 @@ use mathlib.Core.Path.{_≡_, sym, ap, _∙_, subst}
 use mathlib.Core.List.{List, [], _∷_, _++_, append-nil}
 use Prim.Native.Nat.{ℕ, zero, suc, _+_, _-_, _≤_, _<_}
 use native.Mathlib.Omega.{arith}
-use lib.ListN.{length, getD, take, drop, length-append, length-drop, take-append-drop, drop-of-length-le, List·getD-append}
-use lib.Seq.{length-take-le, getD-append-add, getD-take, getD-drop, take-add, drop-cons, sets, sets-eq}
+use lib.ListN.{length, getD, take, drop, length-append, length-drop, drop-of-length-le, List·getD-append}
+use lib.Seq.{length-take-le, getD-append-add, getD-take, getD-drop, drop-cons, sets, sets-eq}
 
 -- the k numbers from b on, and the list with them replaced
 unfoldable pub cut : ℕ → List ℕ → ℕ → List ℕ
@@ -21,10 +21,6 @@ length-cut k l b h = length-take-le k (drop b l) (simp length-drop (omega arith)
 pub getD-cut : (k : ℕ) (l : List ℕ) (b n : ℕ) → n < k → getD (cut k l b) n 0 ≡ getD l (b + n) 0
 unfolding cut
 getD-cut k l b n h = getD-take k (drop b l) n 0 h ∙ getD-drop b l n 0
-
-pub splice-cut : (k : ℕ) (l : List ℕ) (b : ℕ) → splice k l b (cut k l b) ≡ l
-unfolding cut splice
-splice-cut k l b = ap (λ (p : List ℕ). p ++ drop (b + k) l) (sym (take-add b k l)) ∙ take-append-drop (b + k) l
 
 module _ (k : ℕ) (l : List ℕ) (b : ℕ) (r : List ℕ) (long : length r ≡ k) (fits : b + k ≤ length l) where
   head-length : length (take b l) ≡ b

@@ -65,9 +65,6 @@ module _ {A : Type 0} (s : Shape A) where
     go (yes b) = absurd (omega (arith, rows-fit l i b))
     go (no b) = omega arith
 
-  pub cell-fit : (l : List ℕ) (i j : ℕ) → i < rows l → j < s .width → i * s .width + j < length l
-  cell-fit l i j h b = omega (arith, rows-fit l i h)
-
   -- rows do not overlap
   apart : (i j : ℕ) → i < j → i * s .width + s .width ≤ j * s .width
   apart i j h = rw suc-mul at (mul-le-mul-right (s .width) h)
@@ -80,14 +77,14 @@ module _ {A : Type 0} (s : Shape A) where
   unfolding put
   put-out l i v h = rw (le-ltb i (rows l) h)
 
-  private-put : (l : List ℕ) (i : ℕ) (v : A) → i < rows l → put l i v ≡ splice (s .width) l (i * s .width) (s .numbers v)
+  put-splice : (l : List ℕ) (i : ℕ) (v : A) → i < rows l → put l i v ≡ splice (s .width) l (i * s .width) (s .numbers v)
   unfolding splice
-  private-put l i v h = put-in l i v h
+  put-splice l i v h = put-in l i v h
 
   pub length-put : (l : List ℕ) (i : ℕ) (v : A) → length (put l i v) ≡ length l
   length-put l i v = go (decLt i (rows l)) where
     go : Dec (i < rows l) → length (put l i v) ≡ length l
-    go (yes h) = rw private-put (length-splice _ _ _ _ (s .long v) (rows-fit l i h))
+    go (yes h) = rw put-splice (length-splice _ _ _ _ (s .long v) (rows-fit l i h))
     go (no n) = ap length (put-out l i v (omega arith))
 
   pub rows-put : (l : List ℕ) (i : ℕ) (v : A) → rows (put l i v) ≡ rows l
@@ -133,7 +130,7 @@ module _ {A : Type 0} (s : Shape A) where
       (length-cut (s .width) t (i * s .width) f ∙ sym (s .long v))
       (λ n b. let b′ : n < s .width = omega (arith, length-cut (s .width) t (i * s .width) f) in
       getD-cut (s .width) t (i * s .width) n b′
-      ∙ rw (private-put l i v h) (inside _ l _ (s .numbers v) (s .long v) (rows-fit l i h) n b′)))
+      ∙ rw (put-splice l i v h) (inside _ l _ (s .numbers v) (s .long v) (rows-fit l i h) n b′)))
       ∙ s .back v
 
   -- a number outside row i stays
@@ -141,7 +138,7 @@ module _ {A : Type 0} (s : Shape A) where
   outside l i v n o = go (decLt i (rows l)) where
     go : Dec (i < rows l) → getD (put l i v) n 0 ≡ getD l n 0
     go (no h) = ap (λ (t : List ℕ). getD t n 0) (put-out l i v (omega arith))
-    go (yes h) = rw (private-put l i v h) (⊎-elim
+    go (yes h) = rw (put-splice l i v h) (⊎-elim
         (before _ l _ (s .numbers v) (s .long v) (rows-fit l i h) n)
         (after _ l _ (s .numbers v) (s .long v) (rows-fit l i h) n) o)
 

@@ -23,7 +23,7 @@ unfoldable pub linksOf : ItemRow → Links
 linksOf v = record { prev = v .«prev_unallocated» .0; next = v .«next_unallocated» .0 }
 
 -- the row with these two views
-unfoldable pub seenAs : Body → Links → ItemRow
+seenAs : Body → Links → ItemRow
 seenAs b l = record {
   x = b .x;
   width = b .width;

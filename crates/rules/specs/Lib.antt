@@ -6,3 +6,5 @@ pub mod Release
 pub mod Lies
 pub mod Keeps
 pub mod Audit
+pub mod Calls
+pub mod Examples

@@ -1,13 +1,30 @@
 use borrow.Author.Needs.{needs}
-use mathlib.Core.Path.{refl}
 use Rattle.rows.specs.Header.{withUsedItems, withFreeItems}
 use Rattle.rows.specs.Item.{withGeneration}
 use Rattle.rows.specs.Pool.{oneMore, newRow, headAfter, usedAfter, newItem, newGeneration, itemTaken, addItem, addedItem}
 use Rattle.rows.proofs.pool.add_item.Statement.{statement}
 use Rattle.rows.proofs.pool.add_item.Tie as tie
 
-pub add-item-spec : {M : Type 1} → statement M
+-- no row is freed
+returns : tie.Need-returns
 unfolding oneMore newRow headAfter usedAfter newItem newGeneration itemTaken addItem addedItem withUsedItems withFreeItems withGeneration
+returns c =
+    let put = c .before .before .before in
+    let none = put .before .before in
+    rw (← (none .before .is-none .ensures), none .if1 .taken) (rw (c .wrapping-add-u16 .ensures), put .put-item .ensures)
+
+-- the latest freed row is used again
+returns-2 : tie.Need-returns-2
+unfolding oneMore newRow headAfter usedAfter newItem newGeneration itemTaken addItem addedItem withUsedItems withFreeItems withGeneration
+returns-2 c =
+    let put = c .before .before .before in
+    let raised = put .before .before in
+    let old = raised .before in
+    let some = old .before .before in
+    rw (← (some .before .is-none .ensures), some .if1 .left)
+    (rw (old .get-item .ensures), rw (put .put-item2 .ensures, raised .wrapping-add-u162 .ensures, old .get-item .ensures))
+
+pub add-item-spec : {M : Type 1} → statement M
 add-item-spec =
     tie.close
     (tie.spec
@@ -15,11 +32,9 @@ add-item-spec =
     (λ c κs. search needs)
     (λ c κs. search needs)
     (λ c. search needs)
-    (λ c. let p = c .before .before .before in let b = p .before .before in
-    rw (← (b .before .is-none .ensures), b .if1 .taken) (rw (c .wrapping-add-u16 .ensures), p .put-item .ensures))
+    returns
     (λ c κs. search needs)
     (λ c κs. search needs)
     (λ c κs. search needs)
     (λ c. search needs)
-    (λ c. let p = c .before .before .before in let w = p .before .before in let g = w .before in let b = g .before .before in
-    rw (← (b .before .is-none .ensures), b .if1 .left) (rw (g .get-item .ensures), rw (p .put-item2 .ensures, w .wrapping-add-u162 .ensures, g .get-item .ensures))))
+    returns-2)

@@ -1,12 +1,27 @@
 use borrow.Author.Needs.{needs}
-use mathlib.Core.Path.{refl}
 use Rattle.rows.specs.Header.{withUsedShelves, withFreeShelves}
 use Rattle.rows.specs.Pool.{oneMore, newRow, headAfter, usedAfter, newShelf, shelfTaken, addShelf, addedShelf}
 use Rattle.rows.proofs.pool.add_shelf.Statement.{statement}
 use Rattle.rows.proofs.pool.add_shelf.Tie as tie
 
-pub add-shelf-spec : {M : Type 1} → statement M
+-- no row is freed
+returns : tie.Need-returns
 unfolding oneMore newRow headAfter usedAfter newShelf shelfTaken addShelf addedShelf withUsedShelves withFreeShelves
+returns c =
+    let put = c .before .before .before in
+    let none = put .before .before in
+    rw (← (none .before .is-none .ensures), none .if1 .taken) (rw (c .wrapping-add-u16 .ensures), put .put-shelf .ensures)
+
+-- the latest freed row is used again
+returns-2 : tie.Need-returns-2
+unfolding oneMore newRow headAfter usedAfter newShelf shelfTaken addShelf addedShelf withUsedShelves withFreeShelves
+returns-2 c =
+    let put = c .before .before .before in
+    let old = put .before .before in
+    let some = old .before .before in
+    rw (← (some .before .is-none .ensures), some .if1 .left) (rw (old .get-shelf .ensures), put .put-shelf2 .ensures)
+
+pub add-shelf-spec : {M : Type 1} → statement M
 add-shelf-spec =
     tie.close
     (tie.spec
@@ -14,10 +29,8 @@ add-shelf-spec =
     (λ c κs. search needs)
     (λ c κs. search needs)
     (λ c. search needs)
-    (λ c. let p = c .before .before .before in let b = p .before .before in
-    rw (← (b .before .is-none .ensures), b .if1 .taken) (rw (c .wrapping-add-u16 .ensures), p .put-shelf .ensures))
+    returns
     (λ c κs. search needs)
     (λ c κs. search needs)
     (λ c. search needs)
-    (λ c. let p = c .before .before .before in let g = p .before .before in let b = g .before .before in
-    rw (← (b .before .is-none .ensures), b .if1 .left) (rw (g .get-shelf .ensures), p .put-shelf2 .ensures)))
+    returns-2)

@@ -6,8 +6,15 @@ use Rattle.rows.specs.Pool.{freedItemRow, removeItem, itemFreed}
 use Rattle.rows.proofs.pool.remove_item.Statement.{statement}
 use Rattle.rows.proofs.pool.remove_item.Tie as tie
 
-pub remove-item-spec : {M : Type 1} → statement M
+returns : tie.Need-returns
 unfolding removeItem itemFreed freedItemRow withFreeItems withItemNext withGeneration
+returns c =
+    let put = c .before .before in
+    let zero-row = put .before .before .before in
+    let old = zero-row .before in
+    (refl, rw (put .put-item .ensures, zero-row .no-item .ensures, old .get-item .ensures))
+
+pub remove-item-spec : {M : Type 1} → statement M
 remove-item-spec =
     tie.close
     (tie.spec
@@ -15,4 +22,4 @@ remove-item-spec =
     (λ c κs. search needs)
     (λ c κs. search needs)
     (λ c. search needs)
-    (λ c. let b = c .before .before .before .before .before in (refl, rw (c .before .before .put-item .ensures, b .no-item .ensures, b .before .get-item .ensures))))
+    returns)

@@ -1,12 +1,23 @@
 use borrow.Author.Needs.{needs}
-use Rattle.rows.specs.Header.{withFreeItems, withFreeShelves}
+use Rattle.rows.specs.Header.{withFreeShelves}
 use Rattle.rows.specs.Shelf.{withShelfNext}
-use Rattle.rows.specs.Pool.{itemFreed, shelfFreed, freedShelfRow, removeShelf, removeShelfItem}
+use Rattle.rows.specs.Pool.{shelfFreed, freedShelfRow, removeShelf, removeShelfItem}
 use Rattle.rows.proofs.pool.remove_shelf.Statement.{statement}
 use Rattle.rows.proofs.pool.remove_shelf.Tie as tie
 
-pub remove-shelf-spec : {M : Type 1} → statement M
+returns : tie.Need-returns
 unfolding shelfFreed removeShelf removeShelfItem freedShelfRow withFreeShelves withShelfNext
+returns c =
+    let put = c .before .before in
+    let zero-row = put .before .before .before in
+    let item = zero-row .before .before .before in
+    let old = item .before .before .before in (
+      rw (item .remove-item .ensures .0, old .get-shelf .ensures),
+      rw (put .put-shelf .ensures, zero-row .no-shelf .ensures),
+      rw (item .remove-item .ensures .1, old .get-shelf .ensures),
+    )
+
+pub remove-shelf-spec : {M : Type 1} → statement M
 remove-shelf-spec =
     tie.close
     (tie.spec
@@ -16,5 +27,4 @@ remove-shelf-spec =
     (λ c κs. search needs)
     (λ c. search needs)
     (λ c. search needs)
-    (λ c. let p = c .before .before in let n = p .before .before .before in let r = n .before .before .before in let g = r .before .before .before in
-    (rw (r .remove-item .ensures .0, g .get-shelf .ensures), rw (p .put-shelf .ensures, n .no-shelf .ensures), rw (r .remove-item .ensures .1, g .get-shelf .ensures))))
+    returns)

@@ -1,0 +1,24 @@
+-- Flags as numbers and as truth values. Assumes nothing.
+use Prim.Native.Nat.{ℕ, zero, suc, _≤_}
+use mathlib.Core.Path.{_≡_, refl}
+use mathlib.Core.Bool.{Bool, true, false, not}
+use native.Mathlib.Omega.{arith}
+use lib.Dec.{eqb}
+use Rattle.rules.specs.Lies.{flag}
+
+pub flag-one : (b : Bool) → eqb (flag b) 1 ≡ b
+flag-one true = refl
+flag-one false = refl
+
+pub flag-live : (b : Bool) → not (eqb (flag b) 0) ≡ b
+flag-live true = refl
+flag-live false = refl
+
+pub flag-most : (b : Bool) → flag b ≤ 1
+flag-most true = omega arith
+flag-most false = omega arith
+
+-- an allocated flag, once read
+pub flag-read : (n : ℕ) → n ≤ 1 → flag (not (eqb n 0)) ≡ n
+flag-read zero b = refl
+flag-read (suc n) b = let e : n ≡ 0 = omega arith in rw e

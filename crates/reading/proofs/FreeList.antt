@@ -1,0 +1,90 @@
+-- The free list of one shelf: rule 5 at the rows that are met, and the list as it lies in the table. Assumes nothing.
+use Prim.Native.Nat.{ℕ, _<_}
+use mathlib.Core.Path.{_≡_, refl, ap}
+use mathlib.Core.Bool.{Bool, true, false, not}
+use mathlib.Core.List.{List, [], _∷_, map, List·Memᴰ·head, List·Memᴰ·not-nil, List·Memᴰ·eq-of-singleton}
+use mathlib.Core.Logic.{_≢_}
+use lib.Dec.{eqb}
+use borrow.Author.Tests.{eqb-true, eqb-false, ne-eqb, not-true, not-false}
+use Rattle.numbers.specs.Pick.{pick}
+use Rattle.rows.specs.Row.{get}
+use Rattle.rows.specs.Item.{items}
+use Rattle.rows.specs.Views.{Links, linksOf}
+use Rattle.chains.specs.Lists.{_∈_, gather}
+use Rattle.chains.specs.Chain.{Chain}
+use Rattle.chains.specs.Walk.{Ends}
+use Rattle.chains.proofs.Chains.{self}
+use Rattle.rules.specs.Atlas.{Item}
+use Rattle.rules.specs.Lies.{free, liveRows, freeRows}
+use Rattle.rules.specs.Audit.{freeNext, itemIn}
+use Rattle.reading.proofs.Lists.{gather-map, gathered, in-gather}
+use Rattle.reading.proofs.Follow.{Back, chain-ends}
+
+-- ---- the free items and the live ones, among the items that are met
+
+abbrev kept : Bool → ℕ → List ℕ
+kept b r = pick b [] (r ∷ [])
+
+kept-in : (b : Bool) (r x : ℕ) → x ∈ kept b r → (x ≡ r) × (b ≡ false)
+kept-in true r x m = absurd (List·Memᴰ·not-nil m)
+kept-in false r x m = (List·Memᴰ·eq-of-singleton m, refl)
+
+in-kept : (b : Bool) (r : ℕ) → b ≡ false → r ∈ kept b r
+in-kept b r e = rw e (List·Memᴰ·head refl)
+
+module _ (I : List ℕ) where
+  -- the test by which a row counts as live
+  abbrev live : ℕ → Bool
+  live r = not (eqb (get items I r .allocated) 0)
+
+  free-are : (l : List ℕ) → freeRows (map (itemIn I) l) ≡ gather (λ r. kept (live r) r) l
+  unfolding itemIn
+  free-are l = gather-map (itemIn I) (λ (i : Item). pick (i .live) [] (i .row ∷ [])) (λ r. kept (live r) r) (λ r. refl) l
+
+  pub free-in : (l : List ℕ) (r : ℕ) → r ∈ freeRows (map (itemIn I) l) → (r ∈ l) × (get items I r .allocated ≡ 0)
+  free-in l r m =
+      let (q, k, w) = gathered (λ r. kept (live r) r) l r (rw free-are at m) in
+      let (e, b) = kept-in (live q) q r w in
+      (rw e k, rw e (eqb-true (get items I q .allocated) 0 (not-false _ b)))
+
+  pub in-free : (l : List ℕ) (r : ℕ) → r ∈ l → get items I r .allocated ≡ 0 → r ∈ freeRows (map (itemIn I) l)
+  in-free l r m e = rw free-are (in-gather (λ r. kept (live r) r) l r r m (in-kept (live r) r (rw e)))
+
+  live-are : (l : List ℕ) → liveRows (map (itemIn I) l) ≡ gather (λ r. kept (not (live r)) r) l
+  unfolding itemIn
+  live-are l = gather-map (itemIn I) (λ (i : Item). pick (i .live) (i .row ∷ []) []) (λ r. kept (not (live r)) r) (λ r. other (live r) r) l
+    where
+      other : (b : Bool) (r : ℕ) → pick b (r ∷ []) [] ≡ kept (not b) r
+      other true r = refl
+      other false r = refl
+
+  pub live-in : (l : List ℕ) (r : ℕ) → r ∈ liveRows (map (itemIn I) l) → (r ∈ l) × (get items I r .allocated ≢ 0)
+  live-in l r m =
+      let (q, k, w) = gathered (λ r. kept (not (live r)) r) l r (rw live-are at m) in
+      let (e, b) = kept-in (not (live q)) q r w in
+      (rw e k, rw e (λ z. eqb-false (get items I q .allocated) 0 (not-true _ (not-false _ b)) z))
+
+  pub in-live : (l : List ℕ) (r : ℕ) → r ∈ l → get items I r .allocated ≢ 0 → r ∈ liveRows (map (itemIn I) l)
+  in-live l r m n = rw live-are (in-gather (λ r. kept (not (live r)) r) l r r m (in-kept (not (live r)) r (rw (ne-eqb _ 0 n))))
+
+  -- ---- the links of a free list
+
+  abbrev links : ℕ → Links
+  links r = linksOf (get items I r)
+
+  pub free-chain : (used p : ℕ) (l : List ℕ) → Ends (freeNext I) used l → Back (λ p r. get items I r .«prev_unallocated» .0 ≡ p) p l → Chain free links p l
+  unfolding linksOf
+  free-chain used p [] e b = tt
+  free-chain used p (r ∷ l) e b = ((λ z. record { prev = b .0 z; next = e .1 z }), free-chain used r l (e .2) (b .1))
+
+  pub free-back : (p : ℕ) (l : List ℕ) → Chain free links p l → Back (λ p r. get items I r .«prev_unallocated» .0 ≡ p) p l
+  unfolding linksOf
+  free-back p [] c = tt
+  free-back p (r ∷ l) c = (ap (λ (k : Links). k .prev) (c .0), free-back r l (c .1))
+
+  pub free-names : (r p n : ℕ) → links r ≡ free .says p r n → freeNext I r ≡ n
+  unfolding linksOf
+  free-names r p n e = ap (λ (k : Links). k .next) e
+
+  pub free-ends : (used p : ℕ) (l : List ℕ) → ((r : ℕ) → r ∈ l → r < used) → Chain free links p l → Ends (freeNext I) used l
+  free-ends used p l b c = rw self at (chain-ends free links (freeNext I) used free-names p l (λ r m. b r (rw self at m)) c)

@@ -1,0 +1,14 @@
+pub mod Lists
+pub mod Once
+pub mod Follow
+pub mod Flags
+pub mod Items
+pub mod FreeList
+pub mod Shelves
+pub mod Freed
+pub mod Serving
+pub mod FromRules
+pub mod ToRules
+pub mod Unique
+pub mod Determined
+pub mod Reading

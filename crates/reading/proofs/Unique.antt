@@ -1,0 +1,146 @@
+-- An atlas that lies in a header and two tables is the one that is met there. Assumes nothing.
+use Prim.Native.Nat.{ℕ, _≤_, _<_}
+use mathlib.Core.Path.{_≡_, sym, ap, _∙_}
+use mathlib.Core.Bool.{Bool, true, false, not}
+use mathlib.Core.List.{List, [], _∷_, map, List·Memᴰ·not-nil}
+use native.Mathlib.Omega.{arith}
+use lib.Dec.{eqb}
+use Rattle.numbers.specs.Index.{noRow}
+use Rattle.numbers.specs.Pick.{pick}
+use Rattle.rows.specs.Row.{get, rows-few}
+use Rattle.rows.specs.Item.{items, withItemNext, withGeneration}
+use Rattle.rows.specs.Shelf.{shelves}
+use Rattle.rows.specs.Pool.{freedItemRow}
+use Rattle.rows.specs.Views.{Body, bodyOf, linksOf}
+use Rattle.rows.specs.declared.header.Header.{Header}
+use Rattle.rows.specs.declared.item.ItemRow.{ItemRow}
+use Rattle.rows.specs.declared.shelf.ShelfRow.{ShelfRow}
+use Rattle.chains.specs.Lists.{_∈_, Each}
+use Rattle.chains.specs.Walk.{rowsFrom}
+use Rattle.chains.proofs.Chains.{self, within, each-frame}
+use Rattle.rules.specs.Atlas.{Item, Shelf, Freed, Atlas}
+use Rattle.rules.specs.Lies.{item, free, shelf, freedShelf, freedItem, freeRows, Holds, headerOf, Lies, roomIn}
+use Rattle.rules.specs.Keeps.{itemRows, FreeListed, Keeps}
+use Rattle.rules.specs.Audit.{limitsOf, shelfNext, itemNext, freeNext, shelvesMet, itemsMet, freeMet, freedShelvesMet, freedItemsMet, itemIn, shelfIn, freedIn, atlasIn}
+use Rattle.reading.proofs.Lists.{each-both, read-all}
+use Rattle.reading.proofs.Follow.{Says, chain-each, chain-says, chain-met}
+use Rattle.reading.proofs.Flags.{flag-live}
+use Rattle.reading.proofs.Items.{item-names}
+use Rattle.reading.proofs.FreeList.{free-names}
+use Rattle.reading.proofs.Shelves.{shelf-names}
+use Rattle.reading.proofs.Freed.{freed-shelf-next, freed-item-next}
+
+-- ---- an element is what is read from its row
+
+item-read : (I : List ℕ) (on : ℕ) (i : Item) (p n : ℕ) → bodyOf (get items I (i .row)) ≡ item on .says p i n → itemIn I (i .row) ≡ i
+unfolding bodyOf itemIn
+item-read I on i p n e = λ z. record {
+  row = i .row;
+  x = ap (λ (b : Body). b .x) e z;
+  width = ap (λ (b : Body). b .width) e z;
+  live = (ap (λ (b : Body). not (eqb (b .allocated) 0)) e ∙ flag-live (i .live)) z;
+  generation = ap (λ (b : Body). b .generation) e z;
+}
+
+freed-read : (I : List ℕ) (f : Freed) (p n : ℕ) → get items I (f .row) ≡ freedItem .says p f n → freedIn I (f .row) ≡ f
+unfolding freedIn freedItemRow withItemNext withGeneration
+freed-read I f p n e = λ z. record { row = f .row; generation = ap (λ (v : ItemRow). v .generation) e z }
+
+-- ---- a free row of these items is one of their rows
+
+a-free : (b : Bool) (x r : ℕ) → r ∈ pick b [] (x ∷ []) → r ∈ x ∷ []
+a-free true x r m = absurd (List·Memᴰ·not-nil m)
+a-free false x r m = m
+
+pub free-row : (is : List Item) (r : ℕ) → r ∈ freeRows is → r ∈ itemRows is
+free-row = within (λ (i : Item). pick (i .live) [] (i .row ∷ [])) (λ (i : Item). i .row ∷ []) (λ i r. a-free (i .live) (i .row) r)
+
+-- ---- the whole, at the header that the atlas gives
+
+module _ (S I : List ℕ) (a : Atlas) (l : Lies (headerOf a) S I a) (k : Keeps (roomIn S I) a) where
+  few-shelves : a .rows .shelves .used ≤ noRow
+  unfolding roomIn
+  few-shelves = omega (arith, k .sound .in-room .shelves, rows-few shelves S)
+
+  few-items : a .rows .items .used ≤ noRow
+  unfolding roomIn
+  few-items = omega (arith, k .sound .in-room .items, rows-few items I)
+
+  -- what is said of a shelf, in its own row and in those of its items
+  record Said (s : Shelf) : Type 0 where
+    pub row : Says shelf (get shelves S) s
+    pub holds : Holds I s
+    pub listed : FreeListed s
+
+  said : Each Said (a .shelves)
+  said =
+      each-both (Says shelf (get shelves S)) (λ s. Holds I s × FreeListed s) Said (λ s r q. record { row = r; holds = q .0; listed = q .1 }) (a .shelves)
+      (chain-says shelf (get shelves S) noRow (a .shelves) (l .shelf-chain))
+      (each-both (Holds I) FreeListed (λ s. Holds I s × FreeListed s) (λ s p q. (p, q)) (a .shelves) (l .shelf-items) (k .sound .free-listed))
+
+  module _ (s : Shelf) (w : Said s) (b : (r : ℕ) → r ∈ itemRows (s .items) → r < a .rows .items .used) where
+    items-are : map (itemIn I) (itemsMet (headerOf a) S I (s .row)) ≡ s .items
+    unfolding headerOf itemsMet
+    items-are =
+        ap (λ (v : ShelfRow). map (itemIn I) (rowsFrom (itemNext I) (a .rows .items .used) (v .«first_item» .0))) (w .row .2)
+        ∙ ap (map (itemIn I))
+        (chain-met (item (s .row)) (λ r. bodyOf (get items I r)) (itemNext I) (a .rows .items .used) (item-names (headerOf a) I (s .row)) few-items noRow (s .items) b (w .holds .in-order))
+        ∙ read-all (λ (i : Item). i .row) (itemIn I) (s .items) (chain-each (item (s .row)) (λ r. bodyOf (get items I r)) _ (item-read I (s .row)) noRow (s .items) (w .holds .in-order))
+
+    free-are : freeMet (headerOf a) S I (s .row) ≡ s .free
+    unfolding headerOf freeMet
+    free-are =
+        ap (λ (v : ShelfRow). rowsFrom (freeNext I) (a .rows .items .used) (v .«first_unallocated» .0)) (w .row .2)
+        ∙ chain-met free (λ r. linksOf (get items I r)) (freeNext I) (a .rows .items .used) (free-names I) few-items noRow (s .free)
+        (λ r m. b r (free-row (s .items) r (w .listed .only r (rw self at m)))) (w .holds .free-order)
+        ∙ self (s .free)
+
+    shelf-read : shelfIn (headerOf a) S I (s .row) ≡ s
+    unfolding shelfIn
+    shelf-read = λ z. record {
+      row = s .row;
+      x = ap (λ (v : ShelfRow). v .x) (w .row .2) z;
+      y = ap (λ (v : ShelfRow). v .y) (w .row .2) z;
+      depth = ap (λ (v : ShelfRow). v .height) (w .row .2) z;
+      items = items-are z;
+      free = free-are z;
+    }
+
+  shelves-are : map (shelfIn (headerOf a) S I) (shelvesMet (headerOf a) S) ≡ a .shelves
+  unfolding headerOf shelvesMet
+  shelves-are =
+      ap (λ (r : ℕ). map (shelfIn (headerOf a) S I) (rowsFrom (shelfNext S) (a .rows .shelves .used) r)) (sym (k .shaped .first))
+      ∙ ap (map (shelfIn (headerOf a) S I))
+      (chain-met shelf (get shelves S) (shelfNext S) (a .rows .shelves .used) (shelf-names (headerOf a) S I) few-shelves noRow (a .shelves)
+      (k .sound .shelf-rows .serving-used) (l .shelf-chain))
+      ∙ read-all (λ (s : Shelf). s .row) (shelfIn (headerOf a) S I) (a .shelves)
+      (each-frame (λ (s : Shelf). itemRows (s .items)) Said _ (a .shelves) (λ s m w. shelf-read s w (λ r q. k .sound .item-rows .serving-used r (m r q))) said)
+
+  freed-shelves-are : freedShelvesMet (headerOf a) S ≡ a .rows .shelves .freed
+  unfolding headerOf freedShelvesMet
+  freed-shelves-are =
+      chain-met freedShelf (get shelves S) (shelfNext S) (a .rows .shelves .used) (λ r p n. freed-shelf-next S r n) few-shelves noRow (a .rows .shelves .freed)
+      (λ r m. k .sound .shelf-rows .freed-exactly r .0 (rw self at m) .0) (l .freed-shelves)
+      ∙ self (a .rows .shelves .freed)
+
+  freed-items-are : map (freedIn I) (freedItemsMet (headerOf a) I) ≡ a .rows .items .freed
+  unfolding headerOf freedItemsMet
+  freed-items-are =
+      ap (map (freedIn I))
+      (chain-met freedItem (get items I) (itemNext I) (a .rows .items .used) (λ f p n. freed-item-next I (f .row) n (f .generation)) few-items noRow (a .rows .items .freed)
+      (λ r m. k .sound .item-rows .freed-exactly r .0 m .0) (l .freed-items))
+      ∙ read-all (λ (f : Freed). f .row) (freedIn I) (a .rows .items .freed) (chain-each freedItem (get items I) _ (freed-read I) noRow (a .rows .items .freed) (l .freed-items))
+
+  atlas-is : a ≡ atlasIn (headerOf a) S I
+  unfolding headerOf atlasIn limitsOf
+  atlas-is = λ z. record {
+    limits = a .limits;
+    shelves = sym shelves-are z;
+    rows = record {
+      shelves = record { used = a .rows .shelves .used; freed = sym freed-shelves-are z };
+      items = record { used = a .rows .items .used; freed = sym freed-items-are z };
+    };
+  }
+
+pub unique : (h : Header) (S I : List ℕ) (a : Atlas) → Lies h S I a → Keeps (roomIn S I) a → a ≡ atlasIn h S I
+unique h S I a l k = rw (l .header) (atlas-is S I a (rw (l .header) at l) k)

@@ -1,0 +1,1 @@
+// Nothing is computed here: the crate holds proofs alone.
