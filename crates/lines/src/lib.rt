@@ -1,0 +1,4 @@
+// The text of the script program: a line into a command, and an answer into text. No table is read here.
+pub mod command;
+pub mod numeral;
+pub mod read;
