@@ -1,2 +1,5 @@
 pub mod Numeral
 pub mod Line
+pub mod Put
+pub mod Text
+pub mod Answer
