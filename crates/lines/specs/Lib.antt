@@ -3,3 +3,4 @@ pub mod Line
 pub mod Put
 pub mod Text
 pub mod Answer
+pub mod Ids
