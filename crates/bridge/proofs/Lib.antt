@@ -8,4 +8,5 @@ pub mod Loosed
 pub mod Released
 pub mod Held
 pub mod Taken
+pub mod Placed
 pub mod Calls
