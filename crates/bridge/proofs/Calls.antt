@@ -79,7 +79,8 @@ asked-within l limits q w h e =
     asked-placeable (l .«align_width») (l .«align_height») (l .vertical) (l .«shelf_width») (l .height) (limits .align-width-least) (limits .align-height-least) q w h e in
     record { some-width = p .some-width; aligned = p .multiple; no-wider = p .most-width; some-depth = p .some-depth; no-deeper = p .most-depth }
 
-limits-are : (h : Header) (S I : List ℕ) → atlasIn h S I .limits ≡ limitsOf h
+-- the atlas that is met has the limits that the header says
+pub limits-are : (h : Header) (S I : List ℕ) → atlasIn h S I .limits ≡ limitsOf h
 unfolding atlasIn limitsOf
 limits-are h S I = refl
 
