@@ -12,7 +12,7 @@ liveLine l =
     line (decimal (l .row)) (l .generation ∷ l .x0 ∷ l .y0 ∷ l .x1 ∷ l .y1 ∷ [])
 
 -- "ok", "ok C", "ok row gen x0 y0 x1 y1", "space occupied free", the lines of a list, "end COUNT", "no N", each with a newline
-unfoldable pub textOf : Answer → List ℕ
+abbrev pub textOf : Answer → List ℕ
 textOf Done = line (111 ∷ 107 ∷ []) []
 textOf (Made columns) = line (111 ∷ 107 ∷ []) (columns ∷ [])
 textOf (Item l) = (111 ∷ 107 ∷ 32 ∷ []) ++ liveLine l

@@ -14,32 +14,8 @@ as-told : {out : List ℕ} {at : ℕ} {a b : Answer} {out′ : List ℕ} {end : 
 as-told e p = rw e p
 
 returns : tie.Need-returns
-unfolding spaced line textOf
+unfolding spaced line
 returns c = as-told (c .before .before .before .before .before .enum-told .given .1) (c .before .before .put-text .ensures)
-
-returns-2 : tie.Need-returns-2
-unfolding spaced line textOf
-returns-2 c = as-told (c .before .before .before .before .before .before .before .answer .given .1) (c .before .before .put-line .ensures)
-
-returns-3 : tie.Need-returns-3
-unfolding spaced line textOf
-returns-3 c = as-told (c .before .before .before .before .before .answer2 .given .1) (c .before .before .put-item .ensures)
-
-returns-4 : tie.Need-returns-4
-unfolding spaced line textOf
-returns-4 c = as-told (c .before .before .before .before .before .before .before .answer3 .given .1) (c .before .before .put-line2 .ensures)
-
-returns-5 : tie.Need-returns-5
-unfolding spaced line textOf
-returns-5 c = as-told (c .before .before .before .before .before .answer4 .given .1) (c .before .before .put-live .ensures)
-
-returns-6 : tie.Need-returns-6
-unfolding spaced line textOf
-returns-6 c = as-told (c .before .before .before .before .before .before .before .answer5 .given .1) (c .before .before .put-line3 .ensures)
-
-returns-7 : tie.Need-returns-7
-unfolding spaced line textOf
-returns-7 c = as-told (c .before .before .before .before .before .before .before .answer6 .given .1) (c .before .before .put-line4 .ensures)
 
 pub put-answer-spec : {M : Type 1} → statement M
 put-answer-spec =
@@ -49,38 +25,28 @@ put-answer-spec =
     (λ c. search needs)
     (λ c κs. search needs)
     (λ c. search needs)
+    (λ c κs. search needs)
     (λ c. search needs)
-    (λ c. search needs)
+    (λ c κs. search needs)
     (λ c. search needs)
     (λ c κs. search needs)
     (λ c. search needs)
     (λ c κs. search needs)
     (λ c. search needs)
-    (λ c. search needs)
-    (λ c. search needs)
     (λ c κs. search needs)
-    (λ c. search needs)
-    (λ c κs. search needs)
-    (λ c. search needs)
-    (λ c. search needs)
-    (λ c. search needs)
-    (λ c κs. search needs)
-    (λ c. search needs)
-    (λ c. search needs)
-    (λ c. search needs)
     (λ c. search needs)
     (λ c κs. search needs)
     (λ c. search needs)
     returns
     (λ c. search needs)
-    returns-2
+    (λ c. as-told (c .before .before .before .before .before .answer .given .1) (c .before .before .put-made .ensures))
     (λ c. search needs)
-    returns-3
+    (λ c. as-told (c .before .before .before .before .before .answer2 .given .1) (c .before .before .put-item .ensures))
     (λ c. search needs)
-    returns-4
+    (λ c. as-told (c .before .before .before .before .before .answer3 .given .1) (c .before .before .put-space .ensures))
     (λ c. search needs)
-    returns-5
+    (λ c. as-told (c .before .before .before .before .before .answer4 .given .1) (c .before .before .put-live .ensures))
     (λ c. search needs)
-    returns-6
+    (λ c. as-told (c .before .before .before .before .before .answer5 .given .1) (c .before .before .put-end .ensures))
     (λ c. search needs)
-    returns-7)
+    (λ c. as-told (c .before .before .before .before .before .answer6 .given .1) (c .before .before .put-no .ensures)))
