@@ -1,0 +1,146 @@
+-- What the audit's walks decide and count: the items of a shelf, all the items, the free lists, the freed chains. From these counts follow rules
+-- 5 to 7 (proofs/Agree). `S` is the shelf table and `I` the item table throughout. Assumes nothing.
+use Prim.Native.Nat.{ℕ, _+_, _≤_}
+use mathlib.Core.Path.{_≡_}
+use mathlib.Core.Bool.{true, _&&_}
+use mathlib.Core.List.{List}
+use lib.Dec.{eqb}
+use lib.ListN.{length}
+use Rattle.numbers.specs.Pick.{pick}
+use Rattle.numbers.specs.Index.{noRow}
+use Rattle.rows.specs.Row.{get}
+use Rattle.rows.specs.Item.{items}
+use Rattle.rows.specs.Shelf.{shelves}
+use Rattle.rows.specs.Pool.{freedShelfRow, freedItemRow}
+use Rattle.rows.specs.declared.header.Header.{Header}
+use Rattle.rows.specs.declared.shelf.ShelfRow.{ShelfRow}
+use Rattle.rows.specs.declared.item.ItemRow.{ItemRow}
+use Rattle.chains.specs.Lists.{Decides, Each, gather}
+use Rattle.chains.specs.Walk.{rowsFrom, Walk}
+use Rattle.rules.specs.Audit.{shelfNext, itemNext, freeNext, shelvesMet, itemsMet, freeMet, allItemsMet, freedShelvesMet, freedItemsMet, ItemRight, along, atLeft, Rule3, sumOver, areaMet}
+use Rattle.audit.specs.declared.items.Share.{Share}
+use Rattle.audit.specs.declared.items.Tally.{Tally}
+use Rattle.audit.specs.declared.items.Totals.{Totals}
+use Rattle.audit.specs.declared.lists.Counted.{Counted}
+
+-- ---- the items of one shelf
+
+-- what an item adds: 1 if it is free, its width if it is live, 1 if it is live and has a free link
+unfoldable pub shareOf : ItemRow → Share
+shareOf i = record {
+  free = pick (eqb (i .allocated) 0) 1 0;
+  live = pick (eqb (i .allocated) 0) 0 (i .width);
+  stray = pick (eqb (i .allocated) 0) 0 (pick (eqb (i .«prev_unallocated» .0) noRow && eqb (i .«next_unallocated» .0) noRow) 0 1);
+}
+
+abbrev pub freeOf : List ℕ → ℕ → ℕ
+freeOf I r = shareOf (get items I r) .free
+
+abbrev pub liveOf : List ℕ → ℕ → ℕ
+liveOf I r = shareOf (get items I r) .live
+
+abbrev pub strayOf : List ℕ → ℕ → ℕ
+strayOf I r = shareOf (get items I r) .stray
+
+-- the rows that are met along the items of the shelf s, and rule 3 for it, where it stands in row `on`
+unfoldable pub rowsOf : Header → List ℕ → ShelfRow → List ℕ
+rowsOf h I s = rowsFrom (itemNext I) (h .«used_items») (s .«first_item» .0)
+
+unfoldable pub RightOf : Header → List ℕ → ℕ → ShelfRow → Type 0
+RightOf h I on s =
+    Walk (itemNext I) (λ d r. ItemRight h on d (get items I r)) (λ d r. along d r (get items I r))
+    (λ d. d .x ≡ s .x + h .«shelf_width») (h .«used_items») (s .«first_item» .0) (atLeft s)
+
+pub record ShelfCounts (h : Header) (I : List ℕ) (s : ShelfRow) (t : Tally) : Type 0 where
+  pub count : t .count ≡ length (rowsOf h I s)
+  pub free : t .free ≡ sumOver (freeOf I) (rowsOf h I s)
+  pub live : t .live ≡ sumOver (liveOf I) (rowsOf h I s)
+  pub stray : t .stray ≡ sumOver (strayOf I) (rowsOf h I s)
+
+pub record ShelfTallied (h : Header) (I : List ℕ) (on : ℕ) (s : ShelfRow) (t : Tally) : Type 0 where
+  pub exact : Decides (t .right) (RightOf h I on s)
+  pub counts : t .right ≡ true → ShelfCounts h I s t
+  pub count-most : t .count ≤ 65535
+  pub free-most : t .free ≤ 65535
+  pub live-most : t .live ≤ 131070
+  pub stray-most : t .stray ≤ 65535
+
+-- ---- all the items
+
+pub record AllCounts (h : Header) (S I : List ℕ) (t : Totals) : Type 0 where
+  pub shelves : t .shelves ≡ length (shelvesMet h S)
+  pub items : t .items ≡ length (allItemsMet h S I)
+  pub free : t .free ≡ sumOver (freeOf I) (allItemsMet h S I)
+  pub stray : t .stray ≡ sumOver (strayOf I) (allItemsMet h S I)
+  pub area : t .area ≡ sumOver (areaMet h S I) (shelvesMet h S)
+
+pub record AllTallied (h : Header) (S I : List ℕ) (t : Totals) : Type 0 where
+  pub exact : Decides (t .right) (Rule3 h S I)
+  pub counts : t .right ≡ true → AllCounts h S I t
+
+-- ---- the free lists
+
+-- an item that can stand in the free list of the shelf in row `on`, after the row `prev`
+pub record FreeItem (on prev : ℕ) (i : ItemRow) : Type 0 where
+  pub back : i .«prev_unallocated» .0 ≡ prev
+  pub named : i .shelf .0 ≡ on
+  pub some-width : 1 ≤ i .width
+  pub is-free : i .allocated ≡ 0
+
+unfoldable pub FreeList : Header → List ℕ → ℕ → ℕ → Type 0
+FreeList h I on first =
+    Walk (freeNext I) (λ prev r. FreeItem on prev (get items I r)) (λ prev r. r) (λ last. Unit {0}) (h .«used_items») first noRow
+
+-- the free list of the shelf in row `on`
+unfoldable pub FreeListOf : Header → List ℕ → List ℕ → ℕ → Type 0
+unfolding FreeList
+FreeListOf h S I on = FreeList h I on (get shelves S on .«first_unallocated» .0)
+
+unfoldable pub allFreeMet : Header → List ℕ → List ℕ → List ℕ
+unfolding shelvesMet freeMet
+allFreeMet h S I = gather (freeMet h S I) (shelvesMet h S)
+
+pub record FreeListCounted (h : Header) (I : List ℕ) (on first : ℕ) (c : Counted) : Type 0 where
+  pub exact : Decides (c .right) (FreeList h I on first)
+  pub count : c .right ≡ true → c .count ≡ length (rowsFrom (freeNext I) (h .«used_items») first)
+  pub count-most : c .count ≤ 65535
+
+pub record FreeListsCounted (h : Header) (S I : List ℕ) (c : Counted) : Type 0 where
+  pub exact : Decides (c .right) (Each (FreeListOf h S I) (shelvesMet h S))
+  pub count : c .right ≡ true → c .count ≡ length (allFreeMet h S I)
+
+-- ---- the freed rows
+
+abbrev pub FreedShelf : ShelfRow → Type 0
+FreedShelf s = s ≡ freedShelfRow (s .next)
+
+abbrev pub FreedItem : ItemRow → Type 0
+FreedItem i = i ≡ freedItemRow (i .next) (i .generation)
+
+unfoldable pub FreedShelves : Header → List ℕ → Type 0
+FreedShelves h S =
+    Walk (shelfNext S) (λ (u : Unit {0}) r. FreedShelf (get shelves S r)) (λ u r. u) (λ u. Unit {0}) (h .«used_shelves») (h .«free_shelves» .0) tt
+
+unfoldable pub FreedItems : Header → List ℕ → Type 0
+FreedItems h I =
+    Walk (itemNext I) (λ (u : Unit {0}) r. FreedItem (get items I r)) (λ u r. u) (λ u. Unit {0}) (h .«used_items») (h .«free_items» .0) tt
+
+pub record FreedShelvesCounted (h : Header) (S : List ℕ) (c : Counted) : Type 0 where
+  pub exact : Decides (c .right) (FreedShelves h S)
+  pub count : c .right ≡ true → c .count ≡ length (freedShelvesMet h S)
+
+pub record FreedItemsCounted (h : Header) (I : List ℕ) (c : Counted) : Type 0 where
+  pub exact : Decides (c .right) (FreedItems h I)
+  pub count : c .right ≡ true → c .count ≡ length (freedItemsMet h I)
+
+-- ---- the lists against the totals of the item chains
+
+pub record ListsAgree (h : Header) (S I : List ℕ) (t : Totals) : Type 0 where
+  pub no-stray : t .stray ≡ 0
+  pub occupied : t .area ≡ h .occupied
+  pub freed-shelves : FreedShelves h S
+  pub all-shelves : t .shelves + length (freedShelvesMet h S) ≡ h .«used_shelves»
+  pub freed-items : FreedItems h I
+  pub all-items : t .items + length (freedItemsMet h I) ≡ h .«used_items»
+  pub free-lists : Each (FreeListOf h S I) (shelvesMet h S)
+  pub all-free : length (allFreeMet h S I) ≡ t .free
