@@ -10,7 +10,7 @@ use Rattle.numbers.specs.Index.{noRow}
 use Rattle.chains.specs.Lists.{_∈_, Distinct, Each, back-onto}
 use Rattle.chains.specs.Chain.{firstRow, Chain}
 use Rattle.chains.proofs.Lists.{distinct-right, distinct-apart}
-use Rattle.chains.proofs.Chains.{onto-apart, in-onto, self, each-split, each-join, chain-split, chain-any, chain-frame, ne-first}
+use Rattle.chains.proofs.Chains.{onto-apart, in-onto, self, each-split, each-join, chain-any, chain-frame, ne-first}
 use Rattle.chains.proofs.Changes.{chain-drop, rows-drop}
 use Rattle.rows.specs.Row.{rows, get, put, rows-put}
 use Rattle.rows.specs.Change.{change, rows-change}
@@ -28,18 +28,34 @@ use Rattle.steps.specs.Wrap.{plus16-is}
 use Rattle.steps.specs.State.{State, state}
 use Rattle.steps.specs.ShelfEdits.{withReach, joinShelves, mergeShelves}
 use Rattle.opening.proofs.Views.{reads, seen-generation}
+use Rattle.opening.proofs.Standing.{Stands, onRow, used-shelves, used-items, shelf-says}
 use Rattle.opening.proofs.Frames.{holds-frame, each-holds, occupied-onto}
 use Rattle.opening.proofs.Taking.{freed-shared}
 use Rattle.stacking.proofs.Past.{Past, past-same, past-put, past-change}
 use Rattle.stacking.proofs.Leads.{Leads}
-use Rattle.stacking.proofs.Used.{inRow, used-shelves, used-items, shelf-some, shelf-there, item-there, first-used}
+use Rattle.stacking.proofs.Used.{shelf-some, shelf-there, item-there, first-used}
 
-module _ (h : Header) (S I : List ℕ) (a : Atlas) (bs : List Shelf) (p s : Shelf) (ys : List Shelf) (i j : Item)
+module _ (st : State) (a : Atlas) (bs : List Shelf) (p s : Shelf) (ys : List Shelf) (i j : Item)
     (are : a .shelves ≡ back-onto bs (p ∷ s ∷ ys))
     (lone : s .items ≡ i ∷ []) (is-free : i .live ≡ false)
     (lone-above : p .items ≡ j ∷ []) (is-free-above : j .live ≡ false)
     (low : p .depth + s .depth < 2 ^ 16)
-    (sound : Sound (roomIn S I) a) (lies : Lies h S I a) where
+    (stands : Stands st a) where
+  abbrev h : Header
+  h = st .header
+
+  abbrev S : List ℕ
+  S = st .shelves
+
+  abbrev I : List ℕ
+  I = st .items
+
+  abbrev lies : Lies h S I a
+  lies = stands .lies
+
+  abbrev sound : Sound (roomIn S I) a
+  sound = stands .sound
+
   abbrev p′ : Shelf
   p′ = deeper p (p .depth + s .depth)
 
@@ -52,10 +68,10 @@ module _ (h : Header) (S I : List ℕ) (a : Atlas) (bs : List Shelf) (p s : Shel
   chain = rw are at (lies .shelf-chain)
 
   above-is : get shelves S (p .row) ≡ shelf .says (firstRow (shelf .row) bs) p (s .row)
-  above-is = chain-split shelf (get shelves S) bs (p ∷ s ∷ ys) chain .1 .0
+  above-is = shelf-says st a stands bs p (s ∷ ys) are
 
   below-is : get shelves S (s .row) ≡ shelf .says (p .row) s next
-  below-is = chain-split shelf (get shelves S) bs (p ∷ s ∷ ys) chain .1 .1 .0
+  below-is = shelf-says st a stands (p ∷ bs) s ys are
 
   serves : (r : ℕ) → (r ∈ shelfRows bs) ⊎ (r ∈ shelfRows (p ∷ s ∷ ys)) → r ∈ shelfRows (a .shelves)
   serves r o = rw are (in-onto (λ (q : Shelf). q .row ∷ []) r bs (p ∷ s ∷ ys) o)
@@ -70,7 +86,7 @@ module _ (h : Header) (S I : List ℕ) (a : Atlas) (bs : List Shelf) (p s : Shel
   shelf-once = rw are at (sound .shelf-rows .serving-once)
 
   some : (r : ℕ) → r ∈ shelfRows (a .shelves) → r ≢ noRow
-  some r m = shelf-some S I a sound r (sound .shelf-rows .serving-used r m)
+  some r m = shelf-some st a stands r (sound .shelf-rows .serving-used r m)
 
   s-p : s .row ≢ p .row
   s-p e = onto-apart (λ (q : Shelf). q .row ∷ []) bs (p ∷ s ∷ ys) shelf-once .1 .0 (List·Memᴰ·head (sym e))
@@ -81,7 +97,7 @@ module _ (h : Header) (S I : List ℕ) (a : Atlas) (bs : List Shelf) (p s : Shel
   -- ---- the step
 
   abbrev joined : List ℕ
-  joined = change shelves (change shelves S (p .row) (withReach (p .depth + s .depth) (inRow next))) next (withShelfPrev (inRow (p .row)))
+  joined = change shelves (change shelves S (p .row) (withReach (p .depth + s .depth) (onRow next))) next (withShelfPrev (onRow (p .row)))
 
   abbrev S′ : List ℕ
   S′ = put shelves joined (s .row) (freedShelfRow (h .«free_shelves»))
@@ -90,43 +106,43 @@ module _ (h : Header) (S I : List ℕ) (a : Atlas) (bs : List Shelf) (p s : Shel
   I′ = put items I (i .row) (freedItemRow (h .«free_items») (get items I (i .row) .generation))
 
   abbrev h′ : Header
-  h′ = withFreeShelves (inRow (s .row)) (withFreeItems (record { 0 = i .row }) h)
+  h′ = withFreeShelves (onRow (s .row)) (withFreeItems (record { 0 = i .row }) h)
 
-  join-is : joinShelves S (inRow (p .row)) (inRow (s .row)) ≡ joined
+  join-is : joinShelves S (onRow (p .row)) (onRow (s .row)) ≡ joined
   unfolding joinShelves
   join-is = rw (above-is, below-is, plus16-is (p .depth) (s .depth) low)
 
   its-item : get shelves joined (s .row) .«first_item» ≡ record { 0 = i .row }
   its-item = simp (reads, s-p, s-next) (rw (below-is, lone))
 
-  merge-is : mergeShelves (state h S I) (inRow (p .row)) (inRow (s .row)) ≡ state h′ S′ I′
+  merge-is : mergeShelves st (onRow (p .row)) (onRow (s .row)) ≡ state h′ S′ I′
   unfolding mergeShelves removeShelf removeShelfItem removeItem shelfFreed itemFreed
   merge-is = rw (join-is, its-item)
 
   -- ---- the shelf chain and the freed shelves
 
   there : (r : ℕ) → r ∈ shelfRows (back-onto bs (p ∷ s ∷ ys)) → ltb r (rows shelves S) ≡ true
-  there r m = shelf-there S I a sound r (rw are m)
+  there r m = shelf-there st a stands r (rw are m)
 
   new-chain : Chain shelf (get shelves S′) noRow (back-onto bs (p′ ∷ ys))
   unfolding deeper withReach withHeight withShelfNext withShelfPrev
   new-chain =
       chain-drop shelf (get shelves S) (get shelves S′) bs p p′ s ys refl shelf-once (λ r m. some r (rw are m))
-      (withShelfPrev (inRow (p .row))) (λ x m. refl)
+      (withShelfPrev (onRow (p .row))) (λ x m. refl)
       (λ r m x y z. simp reads)
       (λ r m x y e. rw (← e) (simp (reads, there r m)))
-      (λ cp cs x y. simp (reads, shelf-there S I a sound (p .row) p-in) (rw cp))
+      (λ cp cs x y. simp (reads, shelf-there st a stands (p .row) p-in) (rw cp))
       chain
 
   new-freed-shelves : Chain freedShelf (get shelves S′) noRow (s .row ∷ a .rows .shelves .freed)
   unfolding headerOf
   new-freed-shelves = (
-    simp (reads, shelf-there S I a sound (s .row) s-in) (ap (λ (q : Header). freedShelfRow (q .«free_shelves»)) (lies .header)),
+    simp (reads, shelf-there st a stands (s .row) s-in) (ap (λ (q : Header). freedShelfRow (q .«free_shelves»)) (lies .header)),
     chain-frame freedShelf (get shelves S) (get shelves S′) (s .row) (a .rows .shelves .freed)
         (λ r m.
         let x : (r < a .rows .shelves .used) × (¬ (r ∈ shelfRows (a .shelves))) = sound .shelf-rows .freed-exactly r .0 (rw self at m) in
         let out : (q : ℕ) → q ∈ shelfRows (a .shelves) → r ≢ q = λ q k e. x .1 (Memᴰ·cast e k) in
-        let n : r ≢ next = ne-first shelf ys r (shelf-some S I a sound r (x .0)) (λ k. x .1 (serves r (inr (List·Memᴰ·tail (List·Memᴰ·tail k))))) in
+        let n : r ≢ next = ne-first shelf ys r (shelf-some st a stands r (x .0)) (λ k. x .1 (serves r (inr (List·Memᴰ·tail (List·Memᴰ·tail k))))) in
         simp (reads, out (p .row) p-in, out (s .row) s-in))
         (chain-any freedShelf (λ p q e n. refl) (get shelves S) noRow (s .row) (a .rows .shelves .freed) (lies .freed-shelves)),
   )
@@ -172,7 +188,7 @@ module _ (h : Header) (S I : List ℕ) (a : Atlas) (bs : List Shelf) (p s : Shel
   new-freed-items =
       let lie : Chain (item (s .row)) (λ r. bodyOf (get items I r)) noRow (i ∷ []) = rw lone at (held .1 .1 .0 .in-order) in
       let g : get items I (i .row) .generation ≡ i .generation = seen-generation (get items I (i .row)) (lie .0) in (
-        simp (reads, item-there S I a sound (i .row) i-in) (rw g (ap (λ (q : Header). freedItemRow (q .«free_items») (i .generation)) (lies .header))),
+        simp (reads, item-there st a stands (i .row) i-in) (rw g (ap (λ (q : Header). freedItemRow (q .«free_items») (i .generation)) (lies .header))),
         chain-frame freedItem (get items I) (get items I′) (i .row) (a .rows .items .freed)
             (λ r k. item-same r (λ e. sound .item-rows .freed-exactly r .0 k .1 (Memᴰ·cast e i-in)))
             (chain-any freedItem (λ p q e n. refl) (get items I) noRow (i .row) (a .rows .items .freed) (lies .freed-items)),
@@ -208,7 +224,7 @@ module _ (h : Header) (S I : List ℕ) (a : Atlas) (bs : List Shelf) (p s : Shel
   merged = record { limits = a .limits; shelves = back-onto bs (p′ ∷ ys); rows = freeShelf s (a .rows) }
 
   abbrev merge : State
-  merge = mergeShelves (state h S I) (inRow (p .row)) (inRow (s .row))
+  merge = mergeShelves st (onRow (p .row)) (onRow (s .row))
 
   merge-lies : Lies (merge .header) (merge .shelves) (merge .items) merged
   unfolding headerOf withFreeShelves withFreeItems
@@ -227,7 +243,7 @@ module _ (h : Header) (S I : List ℕ) (a : Atlas) (bs : List Shelf) (p s : Shel
       let (di, ix, i-to, i-from) = rows-drop (λ (q : Shelf). itemRows (q .items)) bs p p′ s ys (i .row) refl (rw lone) (rw are at (sound .item-rows .serving-once)) in
       let (lb, ly) = listings in
       rw (merge-is, freed-is) (record {
-        in-room = record { shelves = simp (rows-change, rows-put) (used-shelves S I a sound); items = simp rows-put (used-items S I a sound) };
+        in-room = record { shelves = simp (rows-change, rows-put) (used-shelves st a stands); items = simp rows-put (used-items st a stands) };
         free-listed = each-join FreeListed bs (p′ ∷ ys) lb (record { once = ly .0 .once; only = ly .0 .only }, ly .1 .1);
         shelf-rows = freed-shared (a .rows .shelves .used) (shelfRows (back-onto bs (p ∷ s ∷ ys))) (shelfRows (back-onto bs (p′ ∷ ys))) (a .rows .shelves .freed) (s .row) (rw are at (sound .shelf-rows)) sx ds s-to s-from;
         item-rows = freed-shared (a .rows .items .used) (allItemRows (back-onto bs (p ∷ s ∷ ys))) (allItemRows (back-onto bs (p′ ∷ ys))) (freedRows (a .rows .items .freed)) (i .row) (rw are at (sound .item-rows)) ix di i-to i-from;
@@ -246,5 +262,5 @@ module _ (h : Header) (S I : List ℕ) (a : Atlas) (bs : List Shelf) (p s : Shel
   items-stay : Past items (a .rows .items .used) I (merge .items)
   items-stay = rw merge-is (past-put items _ (past-same items _ I) (i .row) _ (sound .item-rows .serving-used (i .row) i-in))
 
-  pub merge-leads : Leads (state h S I) merge merged
-  merge-leads = record { lies = merge-lies; sound = merge-sound; shelves-past = rw freed-is shelves-stay; items-past = rw freed-is items-stay }
+  pub merge-leads : Leads st merge merged
+  merge-leads = record { stands = record { lies = merge-lies; sound = merge-sound }; shelves-past = rw freed-is shelves-stay; items-past = rw freed-is items-stay }

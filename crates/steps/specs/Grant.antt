@@ -21,22 +21,18 @@ use Rattle.steps.specs.Live.{liveAt, areaAt}
 
 -- "An empty shelf deeper than D + 8 is split. Otherwise the rectangle has the shelf's depth."
 unfoldable pub fitShelf : State → ShelfIndex → Asked → State
-unfolding splitShelf splitsShelf
 fitShelf st at a = pick (splitsShelf a (shelfAt (st .shelves) at)) (splitShelf st at (a .depth)) st
 
 -- ---- the shelf is in use, and names another row as the first free one where that was the item granted
 
 unfoldable pub useShelf : List ℕ → ShelfIndex → ItemIndex → ItemIndex → List ℕ
-unfolding firstAfter withFree
 useShelf S at item new = changeShelf S at (withFree (firstAfter (shelfAt S at .«first_unallocated») item new) 0)
 
 -- the left part of the item granted; the new free item takes its place in the free list
 unfoldable pub takePartItems : List ℕ → Header → ItemIndex → ℕ → List ℕ
-unfolding splitItem relist markLive
 takePartItems I h item width = changeItem (relist (splitItem I h item width) item (newItem h)) item markLive
 
 unfoldable pub takePart : State → ShelfIndex → ItemIndex → ℕ → State
-unfolding useShelf takePartItems
 takePart st at item width = record {
   header = itemTaken (st .items) (st .header);
   shelves = useShelf (st .shelves) at item (newItem (st .header));
@@ -45,11 +41,9 @@ takePart st at item width = record {
 
 -- the whole item granted
 unfoldable pub takeWholeItems : List ℕ → ItemIndex → List ℕ
-unfolding unlist markLive
 takeWholeItems I item = changeItem (unlist I item) item markLive
 
 unfoldable pub takeWhole : State → ShelfIndex → ItemIndex → State
-unfolding useShelf takeWholeItems
 takeWhole st at item = record {
   header = st .header;
   shelves = useShelf (st .shelves) at item (itemAt (st .items) item .«next_unallocated»);
@@ -58,25 +52,19 @@ takeWhole st at item = record {
 
 -- "An item more than 8 wider than asked is split. Otherwise the rectangle has the item's width."
 unfoldable pub takeItem : State → ShelfIndex → ItemIndex → Asked → State
-unfolding takePart takeWhole splitsItem
 takeItem st at item a = pick (splitsItem a (itemAt (st .items) item)) (takePart st at item (a .width)) (takeWhole st at item)
 
--- so much more is occupied
-unfoldable pub occupy : State → ItemIndex → State
-unfolding areaAt
-occupy st item = record {
-  header = withOccupied (plus32 (st .header .occupied) (areaAt (st .shelves) (st .items) item)) (st .header);
-  shelves = st .shelves;
-  items = st .items;
-}
+-- the item's area is occupied
+unfoldable pub occupied : State → ItemIndex → Header
+occupied st item = withOccupied (plus32 (st .header .occupied) (areaAt (st .shelves) (st .items) item)) (st .header)
 
 unfoldable pub grantAt : State → Place → Asked → State
-unfolding fitShelf takeItem occupy
-grantAt st p a = occupy (takeItem (fitShelf st (p .shelf) a) (p .shelf) (p .item) a) (p .item)
+grantAt st p a =
+    let t : State = takeItem (fitShelf st (p .shelf) a) (p .shelf) (p .item) a in
+    record { header = occupied t (p .item); shelves = t .shelves; items = t .items }
 
 -- the answer, read in the tables after the grant
 unfoldable pub grantedAt : State → Place → Asked → Granted
-unfolding grantAt liveAt
 grantedAt st p a =
     let done : State = grantAt st p a in
     record { live = liveAt (done .shelves) (done .items) (done .header) (p .item .0); header = done .header }

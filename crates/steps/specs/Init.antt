@@ -1,9 +1,10 @@
 -- Create and clear: rows 0 to C - 1 of both tables written, and the header of a fresh atlas. Assumes nothing.
-use Prim.Native.Nat.{ℕ, zero, suc, _+_}
+use Prim.Native.Nat.{ℕ, zero, suc, _+_, _-_}
 use mathlib.Core.Path.{_≡_, refl, _∙_}
 use mathlib.Core.List.{List}
 use native.Mathlib.Numerals.{add-one}
-use lib.Dec.{eqb}
+use native.Mathlib.Omega.{arith}
+use lib.Dec.{ltb}
 use lib.ListN.{length}
 use Rattle.numbers.specs.Pick.{pick}
 use Rattle.numbers.specs.Index.{noRow, noItem, noShelf}
@@ -31,7 +32,7 @@ rowBefore zero = noRow
 rowBefore (suc k) = k
 
 unfoldable pub rowAfter : ℕ → ℕ → ℕ
-rowAfter n k = pick (eqb (k + 1) n) noRow (k + 1)
+rowAfter n k = pick (ltb (k + 1) n) (k + 1) noRow
 
 -- shelf k of n: as deep as the atlas and empty, with its item in row k
 unfoldable pub freshShelfRow : Limits → ℕ → ℕ → ShelfRow
@@ -53,6 +54,10 @@ unfoldable pub freshHeader : Limits → ℕ → Header
 freshHeader l n =
     withAtlasWidth (l .width) (withAtlasHeight (l .height) (withAlignWidth (l .«align_width») (withAlignHeight (l .«align_height»)
     (withVertical (l .vertical) (withShelfWidth (l .«shelf_width») (withUsedShelves n (withUsedItems n (withFreeItems noItem (withFreeShelves noShelf zeroHeader)))))))))
+
+pub before-some : (k : ℕ) → (k ≡ 0 → ⊥) → k - 1 ≡ rowBefore k
+before-some zero n = absurd (n refl)
+before-some (suc k) n = omega arith
 
 -- ---- a write more, and the length
 

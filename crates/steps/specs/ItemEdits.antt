@@ -1,7 +1,7 @@
 -- The changes of an item table from which every grant and release is made. Each reads the rows that it needs, and changes what it names;
 -- where there is no such row, zeros are read and nothing is written. Assumes nothing.
 use Prim.Native.Nat.{ℕ}
-use mathlib.Core.Path.{_≡_}
+use mathlib.Core.Path.{_≡_, refl, _∙_}
 use mathlib.Core.List.{List}
 use lib.Dec.{eqb}
 use lib.ListN.{length}
@@ -10,8 +10,8 @@ use Rattle.numbers.specs.Index.{noItem}
 use Rattle.numbers.specs.declared.index.ItemIndex.{ItemIndex}
 use Rattle.numbers.specs.declared.index.ShelfIndex.{ShelfIndex}
 use Rattle.rows.specs.Row.{length-put}
-use Rattle.rows.specs.Change.{length-change}
-use Rattle.rows.specs.Item.{zeroItem, itemAt, changeItem, withItemX, withWidth, withItemPrev, withItemNext, withPrevFree, withNextFree, withShelf, withAllocated}
+use Rattle.rows.specs.Change.{length-change, unseen}
+use Rattle.rows.specs.Item.{items, zeroItem, itemAt, changeItem, withItemX, withWidth, withItemPrev, withItemNext, withPrevFree, withNextFree, withShelf, withAllocated}
 use Rattle.rows.specs.Pool.{newItem, addItem, removeItem}
 use Rattle.rows.specs.declared.header.Header.{Header}
 use Rattle.rows.specs.declared.item.ItemRow.{ItemRow}
@@ -29,7 +29,6 @@ withSpan width next v = withWidth width (withItemNext next v)
 
 -- a live item is on no free list
 unfoldable pub markLive : ItemRow → ItemRow
-unfolding withLinks
 markLive v = withAllocated 1 (withLinks noItem noItem v)
 
 unfoldable pub markFree : ItemRow → ItemRow
@@ -37,7 +36,6 @@ markFree v = withAllocated 0 v
 
 -- a free item that has its shelf to itself
 unfoldable pub loneItem : ℕ → ℕ → ShelfIndex → ItemRow
-unfolding withLinks withSpan
 loneItem x width shelf = withItemX x (withSpan width noItem (withItemPrev noItem (withLinks noItem noItem (withShelf shelf zeroItem))))
 
 -- ---- a shelf's free list: a row taken out, another put in its place, one put in front
@@ -64,7 +62,6 @@ firstAfter first at new = pick (eqb (first .0) (at .0)) new first
 
 -- what is left of item i, which lies in row `at`
 unfoldable pub restOf : ItemRow → ItemIndex → ℕ → ItemRow
-unfolding withLinks
 restOf i at width =
     withItemX (plus16 (i .x) width) (withWidth (minus16 (i .width) width) (withItemPrev at (withLinks noItem noItem (withAllocated 0 i))))
 
@@ -80,6 +77,13 @@ joinNext I h at =
     let i : ItemRow = itemAt I at in
     let n : ItemRow = itemAt I (i .next) in
     removeItem (changeItem (changeItem I at (withSpan (plus16 (i .width) (n .width)) (n .next))) (n .next) (withItemPrev at)) h (i .next)
+
+-- a row taken out of its free list leaves each row's next as it was
+pub next-unlist : (I : List ℕ) (gone at : ItemIndex) → itemAt (unlist I gone) at .next ≡ itemAt I at .next
+unfolding unlist withPrevFree withNextFree
+next-unlist I gone at =
+    let view : ItemRow → ItemIndex = λ v. v .next in
+    unseen items view (withPrevFree _) (λ v. refl) _ _ (at .0) ∙ unseen items view (withNextFree _) (λ v. refl) I _ (at .0)
 
 -- ---- no edit changes a table's length
 

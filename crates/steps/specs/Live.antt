@@ -1,7 +1,7 @@
 -- Live items in the tables: whether an id names one, what an answer tells of one, its area, and the live rows by rising row. Assumes nothing.
-use Prim.Native.Nat.{ℕ, zero, suc, _+_, _-_, _*_, _<_}
+use Prim.Native.Nat.{ℕ, zero, suc, _+_, _-_, _*_, _≤_, _<_}
 use mathlib.Core.Path.{_≡_, refl}
-use mathlib.Core.Bool.{Bool, _&&_}
+use mathlib.Core.Bool.{Bool, true, false, _&&_}
 use mathlib.Core.List.{List}
 use native.Mathlib.Omega.{arith}
 use lib.Dec.{ltb, eqb}
@@ -29,7 +29,6 @@ isLive I h row generation =
 
 -- the id of item i, which lies in this row on shelf s, and its rectangle; with vertical shelves x and y change places
 unfoldable pub liveOf : Header → ShelfRow → ItemRow → ℕ → Live
-unfolding xOf yOf limitsOf
 liveOf h s i row = record {
   row = row;
   generation = i .generation;
@@ -40,7 +39,6 @@ liveOf h s i row = record {
 }
 
 unfoldable pub liveAt : List ℕ → List ℕ → Header → ℕ → Live
-unfolding liveOf
 liveAt S I h row = let i : ItemRow = itemAt I (atRow row) in liveOf h (shelfAt S (i .shelf)) i row
 
 -- the area of the item in row `at`
@@ -59,18 +57,26 @@ firstLive I row zero = End
 firstLive I row (suc steps) = pick (eqb (itemAt I (atRow row) .allocated) 1) (At row) (firstLive I (row + 1) steps)
 
 -- the first used row from `row` on that is live
-unfoldable pub nextLive : List ℕ → Header → ℕ → Next
-unfolding firstLive
-nextLive I h row = firstLive I row (h .«used_items» - row)
+unfoldable pub nextLive : List ℕ → ℕ → ℕ → Next
+nextLive I used row = firstLive I row (used - row)
 
 -- how many live rows are among the next `steps` rows from `row` on, and among all used rows
+unfoldable pub liveOne : List ℕ → ℕ → ℕ
+liveOne I row = pick (eqb (itemAt I (atRow row) .allocated) 1) 1 0
+
+pub one-few : (I : List ℕ) (row n : ℕ) → n ≡ liveOne I row → n ≤ 1
+unfolding liveOne
+one-few I row n e = rw e (go (eqb (itemAt I (atRow row) .allocated) 1)) where
+  go : (a : Bool) → pick a 1 0 ≤ 1
+  go true = omega arith
+  go false = omega arith
+
 unfoldable pub liveFrom : List ℕ → ℕ → ℕ → ℕ
 liveFrom I row zero = 0
-liveFrom I row (suc steps) = pick (eqb (itemAt I (atRow row) .allocated) 1) 1 0 + liveFrom I (row + 1) steps
+liveFrom I row (suc steps) = liveOne I row + liveFrom I (row + 1) steps
 
-unfoldable pub liveCount : List ℕ → Header → ℕ
-unfolding liveFrom
-liveCount I h = liveFrom I 0 (h .«used_items»)
+unfoldable pub liveCount : List ℕ → ℕ → ℕ
+liveCount I used = liveFrom I 0 used
 
 -- ---- a walk with no step left, and with one more
 
@@ -84,12 +90,15 @@ unfolding firstLive
 live-step I row zero h = absurd (omega arith)
 live-step I row (suc steps) h = let e : suc steps - 1 ≡ steps = omega arith in rw e
 
+pub count-start : (I : List ℕ) (used : ℕ) → liveFrom I 0 used ≡ 0 + liveFrom I 0 (used - 0)
+count-start I used = let e : used - 0 ≡ used = omega arith in rw e (omega arith)
+
 pub count-none : (I : List ℕ) (row : ℕ) → liveFrom I row 0 ≡ 0
 unfolding liveFrom
 count-none I row = refl
 
 pub count-step : (I : List ℕ) (row steps : ℕ) → 0 < steps
-    → liveFrom I row steps ≡ pick (eqb (itemAt I (atRow row) .allocated) 1) 1 0 + liveFrom I (row + 1) (steps - 1)
+    → liveFrom I row steps ≡ liveOne I row + liveFrom I (row + 1) (steps - 1)
 unfolding liveFrom
 count-step I row zero h = absurd (omega arith)
 count-step I row (suc steps) h = let e : suc steps - 1 ≡ steps = omega arith in rw e

@@ -41,7 +41,6 @@ passedBy a (Bad b) s = ltb (s .height) (a .depth)
 
 -- "A shelf that is not empty and deeper than D + D/2 (halves dropped; 65535 at most) is a bad fit, skipped if anything is held."
 unfoldable pub isBadFit : Asked → ShelfRow → Bool
-unfolding shelfIsEmpty goodFitTo
 isBadFit a s = not (shelfIsEmpty s) && ltb (goodFitTo (a .depth)) (s .height)
 
 unfoldable pub holdsAny : Held → Bool
@@ -50,19 +49,16 @@ holdsAny (Good g) = true
 holdsAny (Bad b) = true
 
 unfoldable pub skipped : Asked → Held → ShelfRow → Bool
-unfolding passedBy isBadFit holdsAny
 skipped a held s = passedBy a held s || (isBadFit a s && holdsAny held)
 
 -- what is held after the shelf s, in row `at`, that is not skipped: an item of it in place of any held, if it has one wide enough
 unfoldable pub tried : List ℕ → ℕ → Asked → Held → ShelfIndex → ShelfRow → Held
-unfolding firstWide isBadFit
 tried I used a held at s =
     let item : ItemIndex = firstWide I (a .width) (s .«first_unallocated») used in
     let place : Place = record { shelf = at; item = item; height = s .height } in
     pick (eqb (item .0) noRow) held (pick (isBadFit a s) (Bad place) (Good place))
 
 unfoldable pub looked : List ℕ → ℕ → Asked → Held → ShelfIndex → ShelfRow → Held
-unfolding skipped tried
 looked I used a held at s = pick (skipped a held s) held (tried I used a held at s)
 
 -- "Holding one of depth D exactly ends the walk." A shelf of depth D is never a bad fit.
@@ -73,7 +69,6 @@ isExact a (Bad b) = false
 
 -- what is held in the end, from the shelf in row `at` on; `used` item rows
 unfoldable pub walk : List ℕ → List ℕ → ℕ → Asked → Held → ShelfIndex → ℕ → Held
-unfolding looked isExact
 walk S I used a held at zero = held
 walk S I used a held at (suc steps) =
     let s : ShelfRow = shelfAt S at in
@@ -81,7 +76,6 @@ walk S I used a held at (suc steps) =
     pick (eqb (at .0) noRow) held (pick (isExact a now-held) now-held (walk S I used a now-held (s .next) steps))
 
 unfoldable pub search : List ℕ → List ℕ → Header → Asked → Held
-unfolding walk
 search S I h a = walk S I (h .«used_items») a Nothing (record { 0 = 0 }) (h .«used_shelves»)
 
 -- ---- a walk with no step left, and with one more

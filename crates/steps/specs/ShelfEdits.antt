@@ -39,7 +39,6 @@ splitShelfTable S h at depth =
 
 -- the shelf row is taken first, then the item row
 unfoldable pub splitShelf : State → ShelfIndex → ℕ → State
-unfolding splitShelfTable
 splitShelf st at depth =
     let h : Header = shelfTaken (st .shelves) (st .header) in
     record {
@@ -57,7 +56,6 @@ joinShelves S above at =
     changeShelf (changeShelf S above (withReach (plus16 (a .height) (s .height)) (s .next))) (s .next) (withShelfPrev above)
 
 unfoldable pub mergeShelves : State → ShelfIndex → ShelfIndex → State
-unfolding joinShelves
 mergeShelves st above at =
     let S : List ℕ = joinShelves (st .shelves) above at in
     record {
