@@ -1,4 +1,76 @@
 // The audit: whether any header and any two tables keep document 01's rules 1 to 7. It changes nothing, and needs no memory beside its locals.
+ghost use Rattle.chains.specs.Lists.{Decides};
+ghost use Rattle.rules.specs.Audit.{Rule1, PassesForClear};
+ghost use Rattle.audit.specs.Verdicts.{Exact};
+
 pub mod items;
 pub mod lists;
 pub mod shelves;
+
+use numbers::limits;
+use numbers::limits::Limits;
+use rows::header::Header;
+use rows::item;
+use rows::shelf;
+
+// The first rule that fails; of rules 5 to 7, that one of them does. Rule 4 follows from 2 and 3.
+pub enum Verdict {
+    Passes,
+    Rule1,
+    Rule2,
+    Rule3,
+    Rules5To7,
+}
+
+// Rule 1.
+pub fn header_right(h: Header, shelves: &[u16], items: &[u16]) -> bool
+    ensures { λ r. ⌜ Decides r (Rule1 h (now (shelves .entry)) (now (items .entry))) ⌝ }
+{
+    if shelf::shelf_capacity(shelves) < h.used_shelves {
+        return false;
+    }
+    if item::item_capacity(items) < h.used_items {
+        return false;
+    }
+    limits::within_limits(Limits {
+        width: h.width,
+        height: h.height,
+        align_width: h.align_width,
+        align_height: h.align_height,
+        vertical: h.vertical,
+        shelf_width: h.shelf_width,
+    })
+}
+
+// What clear asks: rule 1, and a row for each column in each table.
+pub fn passes_for_clear(h: Header, shelves: &[u16], items: &[u16]) -> bool
+    ensures { λ r. ⌜ Decides r (PassesForClear h (now (shelves .entry)) (now (items .entry))) ⌝ }
+{
+    if !header_right(h, shelves, items) {
+        return false;
+    }
+    let columns = limits::columns(h.width, h.shelf_width);
+    if shelf::shelf_capacity(shelves) < columns {
+        return false;
+    }
+    columns <= item::item_capacity(items)
+}
+
+pub fn audit(h: Header, shelves: &[u16], items: &[u16]) -> Verdict
+    ensures { λ r. ⌜ Exact h (now (shelves .entry)) (now (items .entry)) r ⌝ }
+{
+    if !header_right(h, shelves, items) {
+        return Verdict::Rule1;
+    }
+    if !shelves::shelves_right(h, shelves, items) {
+        return Verdict::Rule2;
+    }
+    let t = items::all_items(h, shelves, items);
+    if !t.right {
+        return Verdict::Rule3;
+    }
+    if !lists::lists_agree(h, shelves, items, t) {
+        return Verdict::Rules5To7;
+    }
+    Verdict::Passes
+}

@@ -1,0 +1,101 @@
+-- Where rules 2 and 3 hold, the lists agree with the totals exactly when rules 5 to 7 hold. Assumes nothing.
+use mathlib.Core.Path.{_≡_, refl, sym, ap, _∙_}
+use mathlib.Core.Logic.{_≢_}
+use mathlib.Core.Bool.{Bool, true, false, _&&_}
+use mathlib.Core.List.{List}
+use Prim.Native.Nat.{ℕ, _+_, _≤_, _<_}
+use native.Mathlib.Decide.{ℕ-discrete}
+use native.Mathlib.Omega.{arith}
+use borrow.Author.Tests.{eq-eqb, ne-eqb, eqb-true}
+use lib.Dec.{eqb}
+use lib.ListN.{length}
+use Rattle.numbers.specs.Index.{noRow}
+use Rattle.numbers.specs.Pick.{pick}
+use Rattle.rows.specs.Row.{get}
+use Rattle.rows.specs.Item.{items}
+use Rattle.rows.specs.Views.{Links, linksOf}
+use Rattle.rows.specs.declared.header.Header.{Header}
+use Rattle.rows.specs.declared.item.ItemRow.{ItemRow}
+use Rattle.chains.specs.Lists.{_∈_, Each}
+use Rattle.rules.specs.Lies.{noLinks}
+use Rattle.rules.specs.Audit.{shelvesMet, allItemsMet, freedShelvesMet, freedItemsMet, Rule2, Rule3, Rule5, Rule6, Rule7, sumOver, areaMet}
+use Rattle.audit.specs.declared.items.Totals.{Totals}
+use Rattle.audit.specs.Counts.{shareOf, freeOf, strayOf, AllCounts, ListsAgree}
+use Rattle.audit.proofs.Members.{each-in, in-each, sum-none, none-sum}
+use Rattle.audit.proofs.Serving.{all-flagged}
+use Rattle.audit.proofs.FreedRows.{freed-shelves-right, right-freed-shelves, freed-items-right, right-freed-items, wide-serves}
+use Rattle.audit.proofs.FreeLists.{lists-right, right-lists, right-total}
+
+-- ---- a live item's free links
+
+both-links : (x y : Bool) → _≡_ {A = ℕ} (pick (x && y) 0 1) 0 → (x ≡ true) × (y ≡ true)
+both-links true true e = (refl, refl)
+both-links true false e = absurd (omega arith)
+both-links false y e = absurd (omega arith)
+
+links-none : (p n : ℕ) → p ≡ noRow → n ≡ noRow → record { prev = p; next = n } ≡ noLinks
+links-none p n e f = rw (e, f)
+
+unlinked : (i : ItemRow) → shareOf i .stray ≡ 0 → i .allocated ≡ 1 → linksOf i ≡ noLinks
+unfolding shareOf linksOf
+unlinked i e a =
+    let live : i .allocated ≢ 0 = λ z. omega arith in
+    let two = both-links (eqb (i .«prev_unallocated» .0) noRow) (eqb (i .«next_unallocated» .0) noRow) (rw (ne-eqb _ _ live) at e) in
+    links-none (i .«prev_unallocated» .0) (i .«next_unallocated» .0) (eqb-true _ _ (two .0)) (eqb-true _ _ (two .1))
+
+no-stray : (i : ItemRow) → i .allocated ≤ 1 → (i .allocated ≡ 1 → linksOf i ≡ noLinks) → shareOf i .stray ≡ 0
+unfolding shareOf linksOf
+no-stray i b f = go (ℕ-discrete (i .allocated) 0) where
+  go : Dec (i .allocated ≡ 0) → shareOf i .stray ≡ 0
+  go (yes e) = rw (eq-eqb _ _ e)
+  go (no n) =
+      let e = f (omega (arith, n)) in
+      let p : i .«prev_unallocated» .0 ≡ noRow = ap (λ (l : Links). l .prev) e in
+      let q : i .«next_unallocated» .0 ≡ noRow = ap (λ (l : Links). l .next) e in
+      rw (ne-eqb _ _ n, eq-eqb _ _ p, eq-eqb _ _ q)
+
+-- ---- the theorem
+
+module _ (h : Header) (S I : List ℕ) (bs : h .«used_shelves» ≤ noRow) (bi : h .«used_items» ≤ noRow) (two : Rule2 h S I) (three : Rule3 h S I)
+    (t : Totals) (n : AllCounts h S I t) where
+  module _ (a : ListsAgree h S I t) where
+    freed-shelves-count : length (shelvesMet h S) + length (freedShelvesMet h S) ≡ h .«used_shelves»
+    freed-shelves-count = rw (← (n .shelves)) (a .all-shelves)
+
+    freed-items-count : length (allItemsMet h S I) + length (freedItemsMet h I) ≡ h .«used_items»
+    freed-items-count = rw (← (n .items)) (a .all-items)
+
+    pub agree-5 : Rule5 h S I
+    agree-5 = lists-right h S I bs bi three (wide-serves h S I bs bi two three (a .freed-items) freed-items-count) (a .free-lists) (a .all-free ∙ n .free)
+
+    pub agree-6 : Rule6 h S I
+    agree-6 = record {
+      shelves-freed = freed-shelves-right h S I bs bi two three (a .freed-shelves) freed-shelves-count .0;
+      items-freed = freed-items-right h S I bs bi two three (a .freed-items) freed-items-count .0;
+    }
+
+    pub agree-7 : Rule7 h S I
+    agree-7 = record {
+      occupied = sym (a .occupied) ∙ n .area;
+      live-unlinked = in-each (allItemsMet h S I) (λ r m. unlinked (get items I r) (sum-none (strayOf I) (allItemsMet h S I) (sym (n .stray) ∙ a .no-stray) r m));
+      freed-shelves-zero = freed-shelves-right h S I bs bi two three (a .freed-shelves) freed-shelves-count .1;
+      freed-items-zero = freed-items-right h S I bs bi two three (a .freed-items) freed-items-count .1;
+    }
+
+  pub rules-agree : Rule5 h S I → Rule6 h S I → Rule7 h S I → ListsAgree h S I t
+  rules-agree five six seven =
+      let s = right-freed-shelves h S I bs bi two three (six .shelves-freed) (seven .freed-shelves-zero) in
+      let i = right-freed-items h S I bs bi two three (six .items-freed) (seven .freed-items-zero) in
+      let unstray : (r : ℕ) → r ∈ allItemsMet h S I → strayOf I r ≡ 0 =
+      λ r m. no-stray (get items I r) (all-flagged h S I bs bi three r m)
+      (each-in (λ r. get items I r .allocated ≡ 1 → linksOf (get items I r) ≡ noLinks) (allItemsMet h S I) (seven .live-unlinked) r m) in
+      record {
+        no-stray = n .stray ∙ none-sum (strayOf I) (allItemsMet h S I) unstray;
+        occupied = n .area ∙ sym (seven .occupied);
+        freed-shelves = s .0;
+        all-shelves = rw (n .shelves) (s .1);
+        freed-items = i .0;
+        all-items = rw (n .items) (i .1);
+        free-lists = right-lists h S I bs bi three five;
+        all-free = right-total h S I bs bi three five ∙ sym (n .free);
+      }
