@@ -71,7 +71,7 @@ turned false false = refl
 module _ (h : Header) (S I : List ℕ) (a : Atlas) (lies : Lies h S I a) (keeps : Keeps (roomIn S I) a) where
   -- what the tables say of an item that is found
   pub told : (w : Found) (row : ℕ) → FoundAt row (a .shelves) (a .shelves) (some w) → table.liveAt S I h row ≡ liveOf (a .limits) (w .shelf .this) (w .item .this)
-  unfolding table.liveAt liveOf headerOf bodyOf limitsOf
+  unfolding table.liveAt table.liveOf liveOf headerOf bodyOf limitsOf
   told w row found =
       let i : Item = w .item .this in
       let s : Shelf = w .shelf .this in

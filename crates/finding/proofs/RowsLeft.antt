@@ -94,7 +94,7 @@ module _ (h : Header) (S I : List ℕ) (a : Atlas) (lies : Lies h S I a) (keeps 
   item-some r m e = omega (arith, keeps .sound .item-rows .freed-exactly r .0 m .0, keeps .sound .in-room .items, rows-few items I)
 
   pub enough-says : (shelfSplit itemSplit : Bool) → table.enoughRows S I h shelfSplit itemSplit ≡ not (rule.tooFewRows (roomIn S I) (a .rows) shelfSplit itemSplit)
-  unfolding table.enoughRows rule.tooFewRows roomIn headerOf seen-one seen-two
+  unfolding table.enoughRows table.spareShelves table.spareItems table.freedShelves table.freedItems rule.tooFewRows roomIn headerOf seen-one seen-two
   enough-says b c =
       rw (
         lies .header,

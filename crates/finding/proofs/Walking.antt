@@ -99,7 +99,7 @@ unfolding table.shelfIsEmpty
 empty-says p n s = flag-one (isEmpty (s .items))
 
 bad-says : (a : Asked) (p n : ℕ) (s : Shelf) → table.isBadFit a (shelf .says p s n) ≡ rule.isBadFit a s
-unfolding table.isBadFit rule.isBadFit
+unfolding table.isBadFit rule.isBadFit table.shelfIsEmpty
 bad-says a p n s = rw (flag-one (isEmpty (s .items)))
 
 passed-says : (a : Asked) (held : rule.Held) (p n : ℕ) (s : Shelf) → table.passedBy a (held-rows held) (shelf .says p s n) ≡ rule.passedBy a held s
