@@ -21,7 +21,7 @@ use Rattle.rows.specs.declared.shelf.ShelfRow.{ShelfRow}
 use Rattle.rows.specs.declared.item.ItemRow.{ItemRow}
 use Rattle.chains.specs.Lists.{Decides}
 use Rattle.numbers.specs.Axes.{along}
-use Rattle.rules.specs.Limits.{alongStep}
+use Rattle.numbers.specs.Limits.{alongStep}
 use Rattle.rules.specs.Audit.{oneFree, limitsOf}
 use Rattle.rules.specs.Lies.{flag}
 use Rattle.audit.specs.Counts.{shareOf, FreedShelf, FreedItem}

@@ -13,7 +13,8 @@ use Rattle.numbers.specs.Sides.{oneTo}
 use Rattle.numbers.specs.declared.limits.Limits.{Limits}
 use Rattle.rows.specs.declared.header.Header.{Header}
 use Rattle.chains.specs.Lists.{Decides}
-use Rattle.rules.specs.Limits.{alongStep, WithinLimits}
+use Rattle.numbers.specs.Limits.{alongStep}
+use Rattle.rules.specs.Limits.{WithinLimits}
 use Rattle.rules.specs.Audit.{limitsOf}
 
 one-to : (most n : ℕ) → 1 ≤ n → n ≤ most → oneTo most n ≡ true

@@ -19,7 +19,8 @@ use Rattle.rows.specs.Row.{rows}
 use Rattle.rows.specs.Item.{items}
 use Rattle.rows.specs.Shelf.{shelves}
 use Rattle.rows.specs.declared.header.Header.{Header}
-use Rattle.rules.specs.Limits.{columns, alongStep, WithinLimits, WithinAtlas}
+use Rattle.numbers.specs.Limits.{alongStep}
+use Rattle.rules.specs.Limits.{columns, WithinLimits, WithinAtlas}
 use Rattle.rules.specs.Atlas.{Atlas, occupied, fresh}
 use Rattle.rules.specs.Grant.{refused, grants, grant}
 use Rattle.rules.specs.Release.{releaseFound}

@@ -19,7 +19,7 @@ use Rattle.rules.specs.Grant.{holding}
 use Rattle.rules.specs.Release.{Loose, Stack, Found, mergeNext, mergeInto, mergeBelow, mergeAbove, releaseFound}
 use Rattle.rules.specs.Lies.{free, Lies, headerOf, roomIn}
 use Rattle.rules.specs.Keeps.{itemRows, allItemRows, AllListed, FreeListed, Shaped, Keeps}
-use Rattle.reading.proofs.Unique.{free-row}
+use Rattle.rules.proofs.LiveRows.{free-row}
 use Rattle.keeps.proofs.Finding.{FoundAt}
 use Rattle.keeps.proofs.Columns.{Placed, stacked-placed}
 use Rattle.keeps.proofs.ReleaseShaped.{release-shape}

@@ -16,7 +16,7 @@ use Rattle.rows.specs.Views.{Body, bodyOf, linksOf}
 use Rattle.rules.specs.Atlas.{Shelf, Freed, Atlas}
 use Rattle.rules.specs.Lies.{item, free, freedItem, Holds}
 use Rattle.rules.specs.Keeps.{itemRows, allItemRows, freedRows, AllListed, FreeListed}
-use Rattle.reading.proofs.Unique.{free-row}
+use Rattle.rules.proofs.LiveRows.{free-row}
 use Rattle.reading.proofs.Determined.{live-or-free}
 use Rattle.steps.specs.State.{State}
 use Rattle.opening.proofs.Standing.{Stands, used-items}

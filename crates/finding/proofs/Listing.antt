@@ -18,7 +18,7 @@ use Rattle.rules.specs.Lies.{Lies, headerOf, roomIn}
 use Rattle.rules.specs.Keeps.{Keeps}
 use Rattle.keeps.proofs.Finding.{FoundAt, find-at}
 use Rattle.steps.specs.Live as table
-use Rattle.finding.proofs.Walking.{flag-one}
+use Rattle.rules.proofs.Flags.{flag-one}
 use Rattle.finding.proofs.Looking.{idle, told, allocated-says}
 
 -- what the tables list of one row, and of the first n rows

@@ -33,7 +33,7 @@ use Rattle.steps.specs.Wrap.{plus16-is}
 use Rattle.steps.specs.Live as table
 use Rattle.opening.proofs.Standing.{NarrowShelf}
 use Rattle.finding.proofs.Narrow.{shelf-narrow, item-narrow}
-use Rattle.finding.proofs.Walking.{flag-one}
+use Rattle.rules.proofs.Flags.{flag-one}
 
 -- a row of a chain of freed rows is not live
 freed-idle : (I : List ℕ) (p : ℕ) (fi : List Freed) → Chain freedItem (get items I) p fi → (r : ℕ) → r ∈ freedRows fi → get items I r .allocated ≡ 0

@@ -17,7 +17,7 @@ use Rattle.rules.specs.Atlas.{Shelf, Atlas}
 use Rattle.rules.specs.Search as rule
 use Rattle.rules.specs.Lies.{Holds, Lies, headerOf, roomIn}
 use Rattle.rules.specs.Keeps.{shelfRows, allItemRows, itemRows, FreeListed, Keeps}
-use Rattle.reading.proofs.Unique.{free-row}
+use Rattle.rules.proofs.LiveRows.{free-row}
 use Rattle.steps.specs.Search as table
 use Rattle.finding.proofs.Walking.{Ready, held-rows, walk-says}
 

@@ -22,6 +22,7 @@ use Rattle.rows.specs.Views.{Body, Links, bodyOf, linksOf}
 use Rattle.chains.specs.Lists.{_∈_, Each, Focus}
 use Rattle.chains.specs.Chain.{firstRow, firstOf, Chain}
 use Rattle.chains.proofs.Chains.{rowsOf}
+use Rattle.rules.proofs.Flags.{flag-one}
 use Rattle.rules.specs.Atlas.{Item, Shelf, isEmpty}
 use Rattle.rules.specs.Search as rule
 use Rattle.rules.specs.Lies.{flag, item, free, shelf, Holds}
@@ -87,10 +88,6 @@ abbrev pub held-rows : rule.Held → Held
 held-rows rule.nothing = Nothing
 held-rows (rule.good f r) = Good (record { shelf = record { 0 = f .this .row }; item = record { 0 = r }; height = f .this .depth })
 held-rows (rule.bad f r) = Bad (record { shelf = record { 0 = f .this .row }; item = record { 0 = r }; height = f .this .depth })
-
-pub flag-one : (b : Bool) → eqb (flag b) 1 ≡ b
-flag-one true = refl
-flag-one false = refl
 
 -- a shelf's row says whether it is empty
 pub empty-says : (p n : ℕ) (s : Shelf) → table.shelfIsEmpty (shelf .says p s n) ≡ isEmpty (s .items)

@@ -12,7 +12,8 @@ use Rattle.numbers.specs.declared.limits.Limits.{Limits}
 use Rattle.chains.specs.Lists.{Each, Neighbours, back-onto}
 use Rattle.chains.specs.Chain.{firstRow}
 use Rattle.chains.proofs.Chains.{each-split, each-join, first-onto}
-use Rattle.rules.specs.Limits.{alongStep, WithinLimits}
+use Rattle.numbers.specs.Limits.{alongStep}
+use Rattle.rules.specs.Limits.{WithinLimits}
 use Rattle.rules.specs.Atlas.{Item, Shelf, Rows, Atlas, isEmpty}
 use Rattle.rules.specs.Grant.{granted, rest-of, upperPart, lowerPart}
 use Rattle.rules.specs.Release.{freeWith, deeper, joins}

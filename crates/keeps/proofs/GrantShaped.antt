@@ -12,7 +12,8 @@ use Rattle.numbers.specs.declared.request.Asked.{Asked}
 use Rattle.chains.specs.Lists.{_∈_, Neighbours, Focus, back-onto}
 use Rattle.chains.proofs.Lists.{not-out}
 use Rattle.chains.proofs.Chains.{onto-apart, in-onto, onto-in, each-split}
-use Rattle.rules.specs.Limits.{alongStep, WithinLimits, WithinAtlas}
+use Rattle.numbers.specs.Limits.{alongStep}
+use Rattle.rules.specs.Limits.{WithinLimits, WithinAtlas}
 use Rattle.rules.specs.Atlas.{Item, Shelf, Rows, Atlas, Room, isEmpty}
 use Rattle.rules.specs.Grant.{newItemRow, splitsShelf, upperPart, lowerPart, splitsItem, granted, rest-of, replaceRow, holding, grantWhole, grantPart, shelfTaken, itemTaken, place, grant}
 use Rattle.rules.specs.Lies.{freeRows}
@@ -20,7 +21,8 @@ use Rattle.rules.specs.Keeps.{Stacked, Filled, NotBothFree, NotBothEmpty, Shape
 use Rattle.keeps.specs.Places.{Spot, Chosen}
 use Rattle.keeps.proofs.Around.{and-false, both-true, Behind, neighbours-split, neighbours-join, neighbours-after, behind-map, behind-any, ahead-map, ahead-any}
 use Rattle.keeps.proofs.Geometry.{filled-onto, filled-part, stacked-split, joins-before, joins-after, joins-alike, joined-alike, Right, Laid, laid, shaped, laid-at}
-use Rattle.keeps.proofs.Listed.{rowOf, freeOf, free-row, stays-listed, new-listed}
+use Rattle.rules.proofs.LiveRows.{free-row}
+use Rattle.keeps.proofs.Listed.{rowOf, freeOf, stays-listed, new-listed}
 use Rattle.keeps.proofs.Granting.{Grants, place-so, grant-so}
 
 -- ---- a shelf with an item granted is in use

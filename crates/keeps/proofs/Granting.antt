@@ -13,7 +13,8 @@ use Rattle.rules.specs.Grant.{shelfTaken, itemTaken, splitsShelf, upperPart, lo
 use Rattle.rules.specs.Keeps.{itemRows, Sound}
 use Rattle.keeps.specs.Places.{Fits, Chosen}
 use Rattle.keeps.proofs.Around.{pick-cases}
-use Rattle.keeps.proofs.Listed.{free-row, is-free}
+use Rattle.rules.proofs.LiveRows.{free-row}
+use Rattle.keeps.proofs.Listed.{is-free}
 use Rattle.keeps.proofs.Finding.{FoundItem, find-item, rows-once, free-only, Holding, search-holding}
 
 -- ---- what the search holds is there

@@ -14,6 +14,7 @@ use Rattle.rules.specs.Atlas.{Item}
 use Rattle.rules.specs.Grant.{replaceRow}
 use Rattle.rules.specs.Lies.{liveRows, freeRows}
 use Rattle.rules.specs.Keeps.{itemRows}
+use Rattle.rules.proofs.LiveRows.{live-free}
 
 -- ---- rows of live items and of free ones: none is both
 
@@ -22,24 +23,6 @@ rowOf i = i .row ∷ []
 
 abbrev pub freeOf : Item → List ℕ
 freeOf i = pick (i .live) [] (i .row ∷ [])
-
-pub a-live : (b : Bool) (x r : ℕ) → r ∈ pick b (x ∷ []) [] → r ∈ (x ∷ [])
-a-live true x r m = m
-a-live false x r m = absurd (List·Memᴰ·not-nil m)
-
-pub a-free : (b : Bool) (x r : ℕ) → r ∈ pick b [] (x ∷ []) → r ∈ (x ∷ [])
-a-free true x r m = absurd (List·Memᴰ·not-nil m)
-a-free false x r m = m
-
-not-both : (b : Bool) (x : ℕ) → Apart (pick b (x ∷ []) []) (pick b [] (x ∷ []))
-not-both true x r m k = List·Memᴰ·not-nil k
-not-both false x r m k = List·Memᴰ·not-nil m
-
-pub free-row : (items : List Item) (r : ℕ) → r ∈ freeRows items → r ∈ itemRows items
-free-row = within freeOf rowOf (λ i r. a-free (i .live) (i .row) r)
-
-live-free : (items : List Item) → Distinct (itemRows items) → Apart (liveRows items) (freeRows items)
-live-free = parts-apart _ _ _ (λ i r. a-live (i .live) (i .row) r) (λ i r. a-free (i .live) (i .row) r) (λ i. not-both (i .live) (i .row))
 
 -- an item whose row is a free item's is free
 pub is-free : (ib : List Item) (i : Item) (ia : List Item) → Distinct (itemRows (back-onto ib (i ∷ ia))) → i .row ∈ freeRows (back-onto ib (i ∷ ia)) → i .live ≡ false

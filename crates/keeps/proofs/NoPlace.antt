@@ -21,7 +21,8 @@ use Rattle.rules.specs.Lies.{freeRows}
 use Rattle.rules.specs.Keeps.{itemRows, allItemRows, FreeListed, AllListed, Keeps}
 use Rattle.keeps.specs.Places.{NoPlace}
 use Rattle.keeps.proofs.Around.{known-no, pick-cases, and-false, each-map, each-both}
-use Rattle.keeps.proofs.Listed.{rowOf, freeOf, free-row}
+use Rattle.rules.proofs.LiveRows.{free-row}
+use Rattle.keeps.proofs.Listed.{rowOf, freeOf}
 use Rattle.keeps.proofs.Granting.{place-so, grant-so}
 
 -- ---- in a shelf

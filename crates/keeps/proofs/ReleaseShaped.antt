@@ -17,7 +17,8 @@ use Rattle.rules.specs.Lies.{freeRows}
 use Rattle.rules.specs.Keeps.{itemRows, Stacked, Filled, NotBothFree, NotBothEmpty, Shaped, Keeps}
 use Rattle.keeps.proofs.Around.{known-no, Half, half, whole, whole-joined, ahead-map}
 use Rattle.keeps.proofs.Geometry.{filled-onto, filled-join, stacked-join, joins-true, joins-alike, joined-alike, Right, Laid, laid, shaped, laid-at}
-use Rattle.keeps.proofs.Listed.{rowOf, freeOf, a-free, free-row, stays-listed}
+use Rattle.rules.proofs.LiveRows.{a-free, free-row}
+use Rattle.keeps.proofs.Listed.{rowOf, freeOf, stays-listed}
 use Rattle.keeps.proofs.Finding.{FoundAt, rows-once}
 use Rattle.keeps.proofs.Merging.{loose, itemsOf, stack, shelvesOf, next-cases, into-cases, below-cases, above-cases}
 

@@ -24,7 +24,7 @@ use Rattle.steps.specs.Wrap.{plus16-is}
 use Rattle.steps.specs.Live.{atRow}
 use Rattle.steps.specs.ItemEdits.{withSpan, joinNext}
 use Rattle.opening.proofs.Views.{sights, bodyPrev, bodySpan, seen-next, seen-width, seen-generation}
-use Rattle.opening.proofs.Frames.{a-free, live-row}
+use Rattle.rules.proofs.LiveRows.{a-free, live-row}
 use Rattle.opening.proofs.Taking.{freedRow, freed-shared}
 use Rattle.opening.proofs.Open.{Open, once, there, some, listed, others-stay}
 use Rattle.opening.proofs.Marks.{liveOf, freeOf, rowOf, at-in, body-is}

@@ -20,7 +20,7 @@ use Rattle.rules.specs.Lies.{item, free, noLinks, liveRows}
 use Rattle.rules.specs.Keeps.{itemRows}
 use Rattle.steps.specs.ItemEdits.{markLive, markFree}
 use Rattle.opening.proofs.Views.{sights, bodyMark}
-use Rattle.opening.proofs.Frames.{a-live, a-free}
+use Rattle.rules.proofs.LiveRows.{a-live, a-free}
 use Rattle.opening.proofs.Open.{Open, once, there, listed, others-stay}
 
 abbrev pub liveOf : Item → List ℕ

@@ -19,7 +19,7 @@ use Rattle.rules.specs.Keeps.{itemRows}
 use Rattle.steps.specs.Live.{atRow}
 use Rattle.steps.specs.ItemEdits.{markLive, markFree, splitItem, joinNext, unlist, relist, enlist}
 use Rattle.steps.specs.Grant.{takePartItems, takeWholeItems}
-use Rattle.opening.proofs.Frames.{live-free}
+use Rattle.rules.proofs.LiveRows.{live-free}
 use Rattle.opening.proofs.Taking.{freedRow, item-new}
 use Rattle.opening.proofs.Open.{Open, once, listed, listed-row, unlist-open, relist-open, enlist-open}
 use Rattle.opening.proofs.Marks.{liveOf, freeOf, at-in, live-open, free-open}

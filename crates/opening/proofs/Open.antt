@@ -24,7 +24,7 @@ use Rattle.rules.specs.Keeps.{itemRows, freedRows, Shared}
 use Rattle.steps.specs.Live.{atRow}
 use Rattle.steps.specs.ItemEdits.{withLinks, unlist, relist, enlist}
 use Rattle.opening.proofs.Views.{sights, linksPrev, linksNext, links, seen-prevFree, seen-nextFree}
-use Rattle.opening.proofs.Frames.{live-row, free-row, live-free}
+use Rattle.rules.proofs.LiveRows.{live-row, free-row, live-free}
 
 -- a list of rows, as the chain of a free list has them
 abbrev pub listed : List ℕ → List ℕ

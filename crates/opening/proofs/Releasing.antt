@@ -33,7 +33,8 @@ use Rattle.steps.specs.ItemEdits.{markFree, unlist, enlist, joinNext, firstAfte
 use Rattle.steps.specs.ShelfEdits.{withFree}
 use Rattle.steps.specs.Release.{Loose as Loosened, isFreeItem, absorbNext, mergeNext as nextMerged, mergeInto as intoMerged, loosen, oneFree, flagOf, vacated as vacate, loosened, releaseItem}
 use Rattle.opening.proofs.Views.{seen-next, seen-allocated}
-use Rattle.opening.proofs.Frames.{area-onto, occupied-onto, live-free}
+use Rattle.rules.proofs.LiveRows.{live-free}
+use Rattle.opening.proofs.Frames.{area-onto, occupied-onto}
 use Rattle.opening.proofs.Standing.{Stands, onRow, shelf-says, widths, NarrowShelf}
 use Rattle.opening.proofs.Taking.{withPool}
 use Rattle.opening.proofs.Open.{Open, once, some}

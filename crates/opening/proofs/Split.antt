@@ -27,7 +27,7 @@ use Rattle.steps.specs.Wrap.{plus16-is, minus16-is}
 use Rattle.steps.specs.Live.{atRow}
 use Rattle.steps.specs.ItemEdits.{withSpan, restOf, splitItem}
 use Rattle.opening.proofs.Views.{sights, bodyPrev, bodySpan, bodyRest, seen-next}
-use Rattle.opening.proofs.Frames.{live-row}
+use Rattle.rules.proofs.LiveRows.{live-row}
 use Rattle.opening.proofs.Taking.{freedRow, Fresh, fresh, taken-shared, taken-chain, item-new, item-generation}
 use Rattle.opening.proofs.Open.{Open, once, there, some, used-some, listed-row}
 use Rattle.opening.proofs.Marks.{liveOf, freeOf, rowOf, at-in, body-is}

@@ -6,10 +6,6 @@ use native.Mathlib.Omega.{arith}
 use lib.Dec.{eqb}
 use Rattle.rules.specs.Lies.{flag}
 
-pub flag-one : (b : Bool) → eqb (flag b) 1 ≡ b
-flag-one true = refl
-flag-one false = refl
-
 pub flag-live : (b : Bool) → not (eqb (flag b) 0) ≡ b
 flag-live true = refl
 flag-live false = refl

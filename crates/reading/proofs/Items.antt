@@ -13,7 +13,7 @@ use Rattle.rows.specs.declared.header.Header.{Header}
 use Rattle.chains.specs.Lists.{Neighbours}
 use Rattle.chains.specs.Chain.{Chain}
 use Rattle.chains.specs.Walk.{Ends, Holds}
-use Rattle.rules.specs.Limits.{alongStep}
+use Rattle.numbers.specs.Limits.{alongStep}
 use Rattle.rules.specs.Atlas.{Item}
 use Rattle.rules.specs.Lies.{item}
 use Rattle.rules.specs.Keeps.{Filled, NotBothFree}

@@ -22,7 +22,7 @@ use Rattle.rules.specs.Lies.{flag, shelf}
 use Rattle.rules.specs.Keeps.{Stacked, NotBothEmpty}
 use Rattle.rules.specs.Audit.{limitsOf, shelfNext, itemNext, itemsMet, freeMet, itemIn, shelfIn, Down, oneFree, ShelfRight, down, atTop, AllColumns}
 use Rattle.reading.proofs.Lists.{first-map}
-use Rattle.reading.proofs.Flags.{flag-one}
+use Rattle.rules.proofs.Flags.{flag-one}
 use Rattle.reading.proofs.Follow.{holds-view, chain-map}
 
 -- "its first item is a used row, free, with no next", of rows that end: the items read from them are one free item

@@ -20,6 +20,7 @@ use Rattle.chains.specs.Walk.{rowsFrom}
 use Rattle.chains.proofs.Chains.{self, within, each-frame}
 use Rattle.rules.specs.Atlas.{Item, Shelf, Freed, Atlas}
 use Rattle.rules.specs.Lies.{item, free, shelf, freedShelf, freedItem, freeRows, Holds, headerOf, Lies, roomIn}
+use Rattle.rules.proofs.LiveRows.{free-row}
 use Rattle.rules.specs.Keeps.{itemRows, FreeListed, Keeps}
 use Rattle.rules.specs.Audit.{limitsOf, shelfNext, itemNext, freeNext, shelvesMet, itemsMet, freeMet, freedShelvesMet, freedItemsMet, itemIn, shelfIn, freedIn, atlasIn}
 use Rattle.reading.proofs.Lists.{each-both, read-all}
@@ -47,13 +48,6 @@ unfolding freedIn freedItemRow withItemNext withGeneration
 freed-read I f p n e = λ z. record { row = f .row; generation = ap (λ (v : ItemRow). v .generation) e z }
 
 -- ---- a free row of these items is one of their rows
-
-a-free : (b : Bool) (x r : ℕ) → r ∈ pick b [] (x ∷ []) → r ∈ x ∷ []
-a-free true x r m = absurd (List·Memᴰ·not-nil m)
-a-free false x r m = m
-
-pub free-row : (is : List Item) (r : ℕ) → r ∈ freeRows is → r ∈ itemRows is
-free-row = within (λ (i : Item). pick (i .live) [] (i .row ∷ [])) (λ (i : Item). i .row ∷ []) (λ i r. a-free (i .live) (i .row) r)
 
 -- ---- the whole, at the header that the atlas gives
 

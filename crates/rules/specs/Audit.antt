@@ -7,7 +7,8 @@ use mathlib.Core.List.{List, [], _∷_, map}
 use lib.Dec.{ltb, eqb}
 use Rattle.numbers.specs.Pick.{pick}
 use Rattle.numbers.specs.Index.{noRow}
-use Rattle.rules.specs.Limits.{columns, alongStep, WithinLimits}
+use Rattle.numbers.specs.Limits.{alongStep}
+use Rattle.rules.specs.Limits.{columns, WithinLimits}
 use Rattle.numbers.specs.declared.limits.Limits.{Limits}
 use Rattle.rows.specs.Row.{rows, get}
 use Rattle.rows.specs.Item.{items}

@@ -5,7 +5,8 @@ use mathlib.Core.Bool.{Bool, true, false, not, _&&_}
 use mathlib.Core.List.{List, [], _∷_}
 use lib.Dec.{eqb}
 use Rattle.numbers.specs.Pick.{pick}
-use Rattle.rules.specs.Limits.{columns, alongStep, WithinLimits}
+use Rattle.numbers.specs.Limits.{alongStep}
+use Rattle.rules.specs.Limits.{columns, WithinLimits}
 use Rattle.numbers.specs.declared.limits.Limits.{Limits}
 use Rattle.chains.specs.Lists.{_∈_, _iff_, Distinct, Each, Neighbours, gather}
 use Rattle.chains.specs.Chain.{firstRow}

@@ -3,16 +3,14 @@ use Prim.Native.Nat.{ℕ, _*_, _/_, _%_, _≤_}
 use mathlib.Core.Path.{_≡_}
 use lib.Dec.{eqb}
 use Rattle.numbers.specs.Pick.{pick}
+use Rattle.numbers.specs.Limits.{columnsOf, alongStep}
 use Rattle.numbers.specs.declared.limits.Limits.{Limits}
 use Rattle.numbers.specs.declared.request.Asked.{Asked}
 
 -- C
 unfoldable pub columns : Limits → ℕ
-columns l = l .width / l .«shelf_width»
-
--- the alignment along the shelves
-unfoldable pub alongStep : Limits → ℕ
-alongStep l = pick (eqb (l .vertical) 1) (l .«align_height») (l .«align_width»)
+unfolding columnsOf
+columns l = columnsOf (l .width) (l .«shelf_width»)
 
 -- a place so far along the shelves and so deep across them, as x and y: with vertical shelves they change places
 unfoldable pub xOf : Limits → ℕ → ℕ → ℕ

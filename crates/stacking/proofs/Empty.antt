@@ -6,10 +6,6 @@ use lib.Dec.{eqb}
 use Rattle.rules.specs.Atlas.{Item, isEmpty}
 use Rattle.rules.specs.Lies.{flag}
 
-pub flag-one : (b : Bool) → eqb (flag b) 1 ≡ b
-flag-one true = refl
-flag-one false = refl
-
 -- an empty shelf is one free item
 pub lone-item : (is : List Item) → isEmpty is ≡ true → (i : Item) × (is ≡ i ∷ []) × (i .live ≡ false)
 unfolding isEmpty

@@ -22,7 +22,8 @@ use Rattle.steps.specs.Grant.{fitShelf}
 use Rattle.steps.specs.ShelfEdits.{splitShelf}
 use Rattle.opening.proofs.Standing.{Stands, onRow, shelf-says}
 use Rattle.stacking.proofs.Leads.{Leads}
-use Rattle.stacking.proofs.Empty.{flag-one, lone-item}
+use Rattle.rules.proofs.Flags.{flag-one}
+use Rattle.stacking.proofs.Empty.{lone-item}
 use Rattle.stacking.proofs.Split.{split-leads}
 
 -- the step as a choice

@@ -23,7 +23,8 @@ use Rattle.steps.specs.Search.{shelfIsEmpty}
 use Rattle.steps.specs.ShelfEdits.{mergeShelves}
 use Rattle.steps.specs.Release.{joins as joinsAt, mergeBelow as mergeBelowAt, mergeAbove as mergeAboveAt}
 use Rattle.opening.proofs.Standing.{Stands, onRow, shelf-says}
-use Rattle.stacking.proofs.Empty.{flag-one, lone-item}
+use Rattle.rules.proofs.Flags.{flag-one}
+use Rattle.stacking.proofs.Empty.{lone-item}
 use Rattle.stacking.proofs.Merge.{merge-leads}
 use Rattle.stacking.proofs.Leads.{Leads, leads-same, leads-then}
 
