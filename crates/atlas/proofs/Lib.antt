@@ -1,3 +1,4 @@
 pub mod Cases
 pub mod Grants
+pub mod Listed
 pub mod Outcomes
