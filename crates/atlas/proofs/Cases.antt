@@ -21,7 +21,6 @@ use Rattle.rows.specs.Item.{items}
 use Rattle.rows.specs.Shelf.{shelves}
 use Rattle.rows.specs.Header.{zeroHeader}
 use Rattle.rows.specs.declared.header.Header.{Header}
-use Rattle.rows.specs.declared.live.Live.{Live}
 use Rattle.chains.specs.Lists.{Decides}
 use Rattle.rules.specs.Limits.{columns, WithinLimits}
 use Rattle.rules.specs.Atlas.{fresh}
@@ -35,12 +34,10 @@ use Rattle.audit.specs.declared.Verdict.the-variants as says
 use Rattle.audit.proofs.Rows.{refuted, denied, granted}
 use Rattle.audit.proofs.WithinLimits.{within-decides}
 use Rattle.steps.specs.Init.{freshHeader, freshShelfTable, freshItemTable}
-use Rattle.steps.specs.Live.{isLive, liveAt, isVacant, nextLive}
-use Rattle.steps.specs.declared.live.Next.the-variants.{At, End}
+use Rattle.steps.specs.Live.{isLive, liveAt, isVacant}
 use Rattle.bridge.proofs.Calls.{create-becomes, clear-becomes, look-none, look-some, occupied-is, free-is, empty-is, size-x-is, size-y-is}
 use Rattle.atlas.specs.Answers.{lookedUp}
 use Rattle.atlas.specs.Promises.{Judged, fails, passes, Unchanged, CreatedAs, Creates, RepliedAs, Clears}
-use Rattle.atlas.specs.Listing.{nextRecord}
 use Rattle.atlas.specs.declared.answers.Creation.the-variants as creation
 use Rattle.atlas.specs.declared.answers.Created.{Created}
 use Rattle.atlas.specs.declared.answers.Grant.the-variants as grant
@@ -49,7 +46,6 @@ use Rattle.atlas.specs.declared.answers.Replied.{Replied}
 use Rattle.atlas.specs.declared.answers.Area.the-variants as area
 use Rattle.atlas.specs.declared.answers.Extent.the-variants as extent
 use Rattle.atlas.specs.declared.answers.Vacancy.the-variants as vacancy
-use Rattle.atlas.specs.declared.list.Record.the-variants as record-of
 
 -- ---- signed numbers handed on
 
@@ -172,14 +168,3 @@ module _ (h : Header) (S I : List ℕ) (p : Passes h S I) where
 
   pub size-turned : h .vertical ≡ 1 → extent.Sides (h .height) (h .width) ≡ extent.Sides (sizeX (atlasIn h S I)) (sizeY (atlasIn h S I))
   size-turned e = rw (size-x-is h S I p, size-y-is h S I p, eq-eqb (h .vertical) 1 e)
-
--- ---- the list, item by item
-
-module _ (h : Header) (S I : List ℕ) (from : ℕ) where
-  pub record-some : (row : ℕ) (v : Live) → nextLive I (h .«used_items») from ≡ At row → v ≡ liveAt S I h row → record-of.Item v ≡ nextRecord h S I from
-  unfolding nextRecord
-  record-some row v e is = rw (e, is)
-
-  pub record-none : nextLive I (h .«used_items») from ≡ End → record-of.End ≡ nextRecord h S I from
-  unfolding nextRecord
-  record-none e = rw e

@@ -10,7 +10,7 @@ use Rattle.rules.specs.Lies.{roomIn}
 use Rattle.rules.specs.Calls.{Made, refuses, makes, make}
 use Rattle.bridge.proofs.Calls.{one-outcome}
 use Rattle.atlas.specs.Answers.{releasing}
-use Rattle.atlas.specs.Listing.{Listable, tooShort, lists}
+use Rattle.atlas.specs.Records.{Listable, tooShort, lists}
 use Rattle.atlas.specs.Promises.{Judged, fails, passes, Unchanged, CreatedAs, Creates, AllocatedAs, Allocates, RepliedAs, Releases, Clears, ListedAs, Lists}
 use Rattle.atlas.specs.declared.answers.Created.{Created}
 use Rattle.atlas.specs.declared.answers.Allocated.{Allocated}

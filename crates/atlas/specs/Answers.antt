@@ -30,11 +30,10 @@ creationNumbers (creation.Made columns) = 0 ∷ columns ∷ []
 creationNumbers (creation.Refused n) = n ∷ 0 ∷ []
 
 -- an id and its rectangle
-unfoldable pub liveNumbers : Live → List ℕ
+abbrev pub liveNumbers : Live → List ℕ
 liveNumbers l = l .row ∷ l .generation ∷ l .x0 ∷ l .y0 ∷ l .x1 ∷ l .y1 ∷ []
 
 unfoldable pub grantNumbers : Grant → List ℕ
-unfolding liveNumbers
 grantNumbers (grant.Granted l) = 0 ∷ liveNumbers l
 grantNumbers (grant.Refused n) = n ∷ 0 ∷ 0 ∷ 0 ∷ 0 ∷ 0 ∷ 0 ∷ []
 

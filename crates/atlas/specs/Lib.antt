@@ -1,4 +1,5 @@
 pub mod Answers
+pub mod Records
+pub mod Listing
 pub mod Promises
 pub mod Placing
-pub mod Listing

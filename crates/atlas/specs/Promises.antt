@@ -19,7 +19,7 @@ use Rattle.rules.specs.Audit.{limitsOf, atlasIn, Passes, PassesForClear}
 use Rattle.rules.specs.Calls.{Made, refuses, makes, make, allocate, release, lookUp, freeSpace, sizeX, sizeY, allEmpty, list}
 use Rattle.bridge.specs.After.{Becomes}
 use Rattle.atlas.specs.Answers.{lookedUp, releasing}
-use Rattle.atlas.specs.Listing.{Listable, lists, tooShort, listable, written}
+use Rattle.atlas.specs.Records.{Listable, lists, tooShort, listable, written}
 use Rattle.atlas.specs.declared.answers.Creation.the-variants as creation
 use Rattle.atlas.specs.declared.answers.Created.{Created}
 use Rattle.atlas.specs.declared.answers.Grant.{Grant}
@@ -110,7 +110,7 @@ TellsEmpty h S I r = Tells h S I r (vacancy.Refused 3) (vacancy.Vacant (allEmpty
 unfoldable pub ListedAs : List ℕ → Listing → List ℕ → Listable → Type 0
 unfolding written
 ListedAs out r out′ (tooShort n) = (r ≡ listing.Refused n) × (out′ ≡ out)
-ListedAs out r out′ (lists ls) = (r ≡ listing.Listed (length ls)) × (out′ ≡ written ls out)
+ListedAs out r out′ (lists ls) = (r ≡ listing.Listed (length ls)) × (out′ ≡ written 0 ls out)
 
 unfoldable pub Lists : (h : Header) (S I out : List ℕ) (r : Listing) (out′ : List ℕ) → Type 0
 unfolding ListedAs listable

@@ -5,4 +5,5 @@ pub mod answers;
 pub mod create;
 pub mod freeing;
 pub mod list;
+pub mod records;
 pub mod tell;

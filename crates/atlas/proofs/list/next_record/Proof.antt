@@ -1,7 +1,7 @@
 -- `next_record`: the next live row, told. Assumes nothing.
 use mathlib.Core.Path.{sym, _∙_}
 use borrow.Author.Needs.{needs}
-use Rattle.atlas.proofs.Cases.{record-some, record-none}
+use Rattle.atlas.proofs.Listed.{record-some, record-none}
 use Rattle.atlas.proofs.list.next_record.Statement.{statement}
 use Rattle.atlas.proofs.list.next_record.Tie as tie
 
