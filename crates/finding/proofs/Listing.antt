@@ -1,7 +1,6 @@
 -- The list: a used row is listed exactly when its flag is 1, and what is listed of it is what the tables tell. Assumes nothing.
 use Prim.Native.Nat.{ℕ, zero, suc, _≤_, _<_}
 use mathlib.Core.Path.{_≡_, refl, sym, ap, _∙_}
-use mathlib.Core.Bool.{Bool, true, false}
 use mathlib.Core.Option.{Option, none, some}
 use mathlib.Core.List.{List, [], _∷_, _++_}
 use native.Mathlib.Omega.{arith}
@@ -11,7 +10,7 @@ use Rattle.rows.specs.Row.{get}
 use Rattle.rows.specs.Item.{items}
 use Rattle.rows.specs.declared.header.Header.{Header}
 use Rattle.rows.specs.declared.live.Live.{Live}
-use Rattle.rules.specs.Atlas.{Item, Shelf, Atlas}
+use Rattle.rules.specs.Atlas.{Atlas}
 use Rattle.rules.specs.Grant.{liveOf}
 use Rattle.rules.specs.Release.{Found, find}
 use Rattle.rules.specs.Calls.{liveIn, livesBelow, list}

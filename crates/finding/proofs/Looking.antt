@@ -1,13 +1,13 @@
 -- Look-up: an id names a live item of the tables exactly when it names one of the atlas, and the answer tells the same of both. Assumes nothing.
-use Prim.Native.Nat.{ℕ, zero, suc, _+_, _≤_, _<_}
+use Prim.Native.Nat.{ℕ, _≤_, _<_}
 use mathlib.Core.Path.{_≡_, refl, sym, ap, _∙_}
-use mathlib.Core.Logic.{_≢_, _⊎_, inl, inr, ⊎-elim}
-use mathlib.Core.Bool.{Bool, true, false, not, _&&_, _||_}
+use mathlib.Core.Logic.{_⊎_, inr, ⊎-elim}
+use mathlib.Core.Bool.{Bool, true, false, _&&_}
 use mathlib.Core.Option.{Option, none, some}
-use mathlib.Core.List.{List, [], _∷_, _++_, List·Memᴰ·head, List·Memᴰ·tail, List·Memᴰ·not-nil, List·Memᴰ·cases-cons, Memᴰ·append-left}
+use mathlib.Core.List.{List, [], _∷_, List·Memᴰ·head, List·Memᴰ·not-nil, List·Memᴰ·cases-cons, Memᴰ·append-left}
 use native.Mathlib.Decide.{decLt, ℕ-discrete}
 use native.Mathlib.Omega.{arith}
-use lib.Dec.{eqb, ltb}
+use lib.Dec.{eqb}
 use borrow.Author.Tests.{eq-eqb, ne-eqb, lt-ltb, le-ltb}
 use Rattle.numbers.specs.Pick.{pick}
 use Rattle.numbers.specs.Index.{noRow}
@@ -18,11 +18,10 @@ use Rattle.rows.specs.Pool.{freedItemRow}
 use Rattle.rows.specs.Views.{Body, bodyOf}
 use Rattle.rows.specs.declared.header.Header.{Header}
 use Rattle.rows.specs.declared.item.ItemRow.{ItemRow}
-use Rattle.chains.specs.Lists.{_∈_, Each, Focus, back-onto}
+use Rattle.chains.specs.Lists.{_∈_, Each}
 use Rattle.chains.specs.Chain.{firstRow, Chain}
-use Rattle.chains.proofs.Lists.{decMemᴰ}
-use Rattle.chains.proofs.Chains.{rowsOf, chain-split, each-split, in-onto}
-use Rattle.rules.specs.Atlas.{Item, Shelf, Freed, Atlas, occupied}
+use Rattle.chains.proofs.Chains.{chain-split, each-split, in-onto}
+use Rattle.rules.specs.Atlas.{Item, Shelf, Freed, Atlas}
 use Rattle.rules.specs.Grant.{liveOf}
 use Rattle.rules.specs.Audit.{limitsOf}
 use Rattle.rules.specs.Release.{Found, find, names, findLive}
@@ -32,7 +31,8 @@ use Rattle.keeps.proofs.Around.{pick-cases, both-true}
 use Rattle.keeps.proofs.Finding.{FoundAt, find-at}
 use Rattle.steps.specs.Wrap.{plus16-is}
 use Rattle.steps.specs.Live as table
-use Rattle.finding.proofs.Narrow.{width-narrow, depth-narrow}
+use Rattle.opening.proofs.Standing.{NarrowShelf}
+use Rattle.finding.proofs.Narrow.{shelf-narrow, item-narrow}
 use Rattle.finding.proofs.Walking.{flag-one}
 
 -- a row of a chain of freed rows is not live
@@ -77,6 +77,7 @@ module _ (h : Header) (S I : List ℕ) (a : Atlas) (lies : Lies h S I a) (keeps 
       let s : Shelf = w .shelf .this in
       let here : FoundAt (i .row) (a .shelves) (a .shelves) (some w) = (found .0, found .1, refl) in
       let body = item-says h S I a lies (keeps .sound) w here in
+      let narrow : NarrowShelf s = shelf-narrow a (keeps .shaped) (w .shelf .before) s (w .shelf .after) (found .0) in
       rw (
         sym (found .2),
         lies .header,
@@ -85,8 +86,8 @@ module _ (h : Header) (S I : List ℕ) (a : Atlas) (lies : Lies h S I a) (keeps 
         ap (λ (b : Body). b .x) body,
         ap (λ (b : Body). b .width) body,
         ap (λ (b : Body). b .generation) body,
-        plus16-is (i .x) (i .width) (width-narrow a (keeps .shaped) (w .shelf .before) s (w .shelf .after) (found .0) (w .item .before) i (w .item .after) (found .1)),
-        plus16-is (s .y) (s .depth) (depth-narrow a (keeps .shaped) (w .shelf .before) s (w .shelf .after) (found .0)),
+        plus16-is (i .x) (i .width) (omega (arith, item-narrow s narrow (w .item .before) i (w .item .after) (found .1))),
+        plus16-is (s .y) (s .depth) (omega (arith, narrow .reach)),
       )
 
   used-is : h .«used_items» ≡ a .rows .items .used

@@ -1,10 +1,10 @@
 -- Answer 7: the tables have rows enough for a place exactly when the rules say that they are not too few. The code counts at most two freed
 -- rows, and no place needs more. Assumes nothing.
-use Prim.Native.Nat.{ℕ, zero, suc, _+_, _-_, _≤_, _<_}
+use Prim.Native.Nat.{ℕ, suc, _+_, _-_, _≤_}
 use mathlib.Core.Path.{_≡_, refl, sym, ap, _∙_}
 use mathlib.Core.Logic.{_≢_}
 use mathlib.Core.Bool.{Bool, true, false, not, _&&_, _||_}
-use mathlib.Core.List.{List, [], _∷_, _++_, List·Memᴰ·head, List·Memᴰ·tail}
+use mathlib.Core.List.{List, [], _∷_, List·Memᴰ·head, List·Memᴰ·tail}
 use native.Mathlib.Decide.{decLe}
 use native.Mathlib.Omega.{arith}
 use lib.ListN.{length}
@@ -17,12 +17,11 @@ use Rattle.rows.specs.Row.{rows, get, rows-few}
 use Rattle.rows.specs.Item.{items, withItemNext, withGeneration}
 use Rattle.rows.specs.Shelf.{shelves}
 use Rattle.rows.specs.Pool.{freedItemRow}
-use Rattle.rows.specs.Views.{Body, bodyOf}
 use Rattle.rows.specs.declared.header.Header.{Header}
 use Rattle.rows.specs.declared.item.ItemRow.{ItemRow}
 use Rattle.chains.specs.Lists.{_∈_}
 use Rattle.chains.specs.Chain.{firstRow, firstOf, Chain}
-use Rattle.rules.specs.Atlas.{Item, Shelf, Freed, Pool, Atlas, occupied}
+use Rattle.rules.specs.Atlas.{Item, Shelf, Freed, Atlas}
 use Rattle.rules.specs.Grant as rule
 use Rattle.rules.specs.Lies.{shelf, item, freedItem, Lies, headerOf, roomIn}
 use Rattle.rules.specs.Keeps.{freedRows, Keeps}

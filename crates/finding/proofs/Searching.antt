@@ -1,8 +1,8 @@
 -- The search, where an atlas lies in the tables: it holds the rows of what the rules' search holds, or nothing where that holds nothing.
 -- Assumes nothing.
 use Prim.Native.Nat.{ℕ, _≤_, _<_}
-use mathlib.Core.Path.{_≡_, refl, sym, ap, _∙_}
-use mathlib.Core.List.{List, [], _∷_, _++_, Memᴰ·append-left, Memᴰ·append-right}
+use mathlib.Core.Path.{_≡_, refl, sym}
+use mathlib.Core.List.{List, [], _∷_, Memᴰ·append-left, Memᴰ·append-right}
 use native.Mathlib.Omega.{arith}
 use lib.ListN.{length}
 use Rattle.numbers.specs.Index.{noRow}
@@ -12,11 +12,10 @@ use Rattle.rows.specs.Item.{items}
 use Rattle.rows.specs.Shelf.{shelves}
 use Rattle.rows.specs.declared.header.Header.{Header}
 use Rattle.chains.specs.Lists.{_∈_, Each}
-use Rattle.chains.specs.Chain.{firstRow}
 use Rattle.chains.proofs.Lists.{distinct-below}
-use Rattle.rules.specs.Atlas.{Shelf, Atlas, occupied}
+use Rattle.rules.specs.Atlas.{Shelf, Atlas}
 use Rattle.rules.specs.Search as rule
-use Rattle.rules.specs.Lies.{shelf, Holds, Lies, headerOf, roomIn}
+use Rattle.rules.specs.Lies.{Holds, Lies, headerOf, roomIn}
 use Rattle.rules.specs.Keeps.{shelfRows, allItemRows, itemRows, FreeListed, Keeps}
 use Rattle.reading.proofs.Unique.{free-row}
 use Rattle.steps.specs.Search as table

@@ -1,14 +1,14 @@
 -- The search of the tables holds what the rules' walk holds. Assumes nothing.
-use Prim.Native.Nat.{ℕ, zero, suc, _+_, _≤_, _<_}
-use mathlib.Core.Path.{_≡_, refl, sym, ap, _∙_}
-use mathlib.Core.Logic.{_≢_, _⊎_, inl, inr, ⊎-elim}
-use mathlib.Core.Bool.{Bool, true, false, not, _&&_, _||_}
+use Prim.Native.Nat.{ℕ, zero, suc, _≤_}
+use mathlib.Core.Path.{_≡_, refl, ap, _∙_}
+use mathlib.Core.Logic.{_≢_, _⊎_, ⊎-elim}
+use mathlib.Core.Bool.{Bool, true, false, _&&_, _||_}
 use mathlib.Core.Option.{Option, none, some}
-use mathlib.Core.List.{List, [], _∷_, _++_, List·Memᴰ, List·Memᴰ·head, List·Memᴰ·tail, List·Memᴰ·not-nil, List·Memᴰ·cases-cons}
+use mathlib.Core.List.{List, [], _∷_, List·Memᴰ·head, List·Memᴰ·tail, List·Memᴰ·not-nil, List·Memᴰ·cases-cons}
 use native.Mathlib.Decide.{ℕ-discrete}
 use native.Mathlib.Omega.{arith}
 use lib.ListN.{length}
-use lib.Dec.{eqb, leb, ltb}
+use lib.Dec.{eqb, leb}
 use borrow.Author.Tests.{eq-eqb, ne-eqb}
 use Rattle.numbers.specs.Pick.{pick}
 use Rattle.numbers.specs.Index.{noRow, noItem}
@@ -19,14 +19,13 @@ use Rattle.rows.specs.Row.{get}
 use Rattle.rows.specs.Item.{items}
 use Rattle.rows.specs.Shelf.{shelves}
 use Rattle.rows.specs.Views.{Body, Links, bodyOf, linksOf}
-use Rattle.rows.specs.declared.shelf.ShelfRow.{ShelfRow}
-use Rattle.chains.specs.Lists.{_∈_, Distinct, Each, Focus}
+use Rattle.chains.specs.Lists.{_∈_, Each, Focus}
 use Rattle.chains.specs.Chain.{firstRow, firstOf, Chain}
 use Rattle.chains.proofs.Chains.{rowsOf}
 use Rattle.rules.specs.Atlas.{Item, Shelf, isEmpty}
 use Rattle.rules.specs.Search as rule
-use Rattle.rules.specs.Lies.{flag, item, free, shelf, freeRows, Holds}
-use Rattle.rules.specs.Keeps.{itemRows, FreeListed}
+use Rattle.rules.specs.Lies.{flag, item, free, shelf, Holds}
+use Rattle.rules.specs.Keeps.{itemRows}
 use Rattle.steps.specs.Search as table
 use Rattle.steps.specs.declared.search.Held.{Held}
 use Rattle.steps.specs.declared.search.Held.the-variants.{Nothing, Good, Bad}

@@ -29,7 +29,7 @@ use Rattle.steps.specs.State.{State}
 use Rattle.steps.specs.Live.{atRow, areaAt}
 use Rattle.steps.specs.ItemEdits.{firstAfter}
 use Rattle.steps.specs.ShelfEdits.{withFree}
-use Rattle.steps.specs.Grant.{useShelf, takePartItems, takePart, takeWholeItems, takeWhole, occupy}
+use Rattle.steps.specs.Grant.{useShelf, takePartItems, takePart, takeWholeItems, takeWhole, occupied as occupiedAfter}
 use Rattle.opening.proofs.Views.{reads, seen-nextFree, seen-width, seen-shelf}
 use Rattle.opening.proofs.Frames.{area-onto, occupied-onto, live-free, not-empty, replace-at, first-listed}
 use Rattle.opening.proofs.Standing.{Stands, onRow, used-items, shelf-says, widths, NarrowShelf, area-within}
@@ -38,6 +38,10 @@ use Rattle.opening.proofs.Open.{Open, once, links-are}
 use Rattle.opening.proofs.Marks.{liveOf, body-is}
 use Rattle.opening.proofs.Moves.{whole-open, part-open}
 use Rattle.opening.proofs.Close.{reshelved, open-shelf, shelf-there, close-stands, close-header}
+
+-- the state in which the item's area is occupied
+abbrev pub occupy : State → ItemIndex → State
+occupy st item = record { header = occupiedAfter st item; shelves = st .shelves; items = st .items }
 
 -- the area of an item of an opened shelf, as the code reads it
 pub area-is : {I₀ I : List ℕ} {on : ℕ} {fl : List ℕ} {p : Pool Freed} {others : List ℕ} (ib : List Item) (i : Item) (ia : List Item)
@@ -147,7 +151,7 @@ module _ (st : State) (a : Atlas) (f : Focus Shelf) (w : Focus Item)
       → st₁ .shelves ≡ change shelves S (s .row) (withFree first 0)
       → st₁ .header ≡ withPool p h
       → Stands (occupy st₁ (atRow (i .row))) (reshelved a (f .before) (holding s (back-onto (w .before) (granted i width ∷ us)) fl) (f .after) p)
-  unfolding occupy areaAt withUsedItems withFreeItems
+  unfolding occupiedAfter areaAt withUsedItems withFreeItems
   grant-stands width us fl p st₁ first fits o′ eu fe es eh =
       let is : List Item = back-onto (w .before) (granted i width ∷ us) in
       rw (es, eh)

@@ -18,13 +18,13 @@ use Rattle.steps.specs.Live.{atRow}
 use Rattle.steps.specs.Spare.{splitsItem as splitsRow}
 use Rattle.steps.specs.ItemEdits.{markLive, splitItem, unlist, relist, firstAfter}
 use Rattle.steps.specs.ShelfEdits.{withFree}
-use Rattle.steps.specs.Grant.{useShelf, takePartItems, takePart, takeWholeItems, takeWhole, takeItem, occupy}
+use Rattle.steps.specs.Grant.{useShelf, takePartItems, takePart, takeWholeItems, takeWhole, takeItem}
 use Rattle.opening.proofs.Views.{seen-width, seen-shelf}
 use Rattle.opening.proofs.Standing.{Stands, onRow, NarrowShelf}
 use Rattle.opening.proofs.Open.{Open}
 use Rattle.opening.proofs.Marks.{body-is}
 use Rattle.opening.proofs.Close.{open-shelf}
-use Rattle.opening.proofs.Granting.{whole-stands, part-stands}
+use Rattle.opening.proofs.Granting.{occupy, whole-stands, part-stands}
 
 take-step : (st : State) (on row : ℕ) (a : Asked)
     → takeItem st (onRow on) (atRow row) a ≡ pick (splitsRow a (get items (st .items) row)) (takePart st (onRow on) (atRow row) (a .width)) (takeWhole st (onRow on) (atRow row))

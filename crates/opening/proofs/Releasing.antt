@@ -31,7 +31,7 @@ use Rattle.steps.specs.State.{State}
 use Rattle.steps.specs.Live.{atRow, areaAt}
 use Rattle.steps.specs.ItemEdits.{markFree, unlist, enlist, joinNext, firstAfter}
 use Rattle.steps.specs.ShelfEdits.{withFree}
-use Rattle.steps.specs.Release.{Loose as Loosened, isFreeItem, absorbNext, mergeNext as nextMerged, mergeInto as intoMerged, loosen, oneFree, flagOf, vacate, loosened, releaseItem}
+use Rattle.steps.specs.Release.{Loose as Loosened, isFreeItem, absorbNext, mergeNext as nextMerged, mergeInto as intoMerged, loosen, oneFree, flagOf, vacated as vacate, loosened, releaseItem}
 use Rattle.opening.proofs.Views.{seen-next, seen-allocated}
 use Rattle.opening.proofs.Frames.{area-onto, occupied-onto, live-free}
 use Rattle.opening.proofs.Standing.{Stands, onRow, shelf-says, widths, NarrowShelf}

@@ -5,7 +5,7 @@ use mathlib.Core.List.{List, List·Memᴰ·not-nil}
 use native.Mathlib.Nat.{suc-mul, le-div-iff-mul-le}
 use native.Mathlib.Decide.{ℕ-discrete}
 use native.Mathlib.Omega.{arith}
-use borrow.Author.Tests.{eq-eqb, ne-eqb}
+use borrow.Author.Tests.{lt-ltb, le-ltb}
 use Rattle.numbers.specs.declared.limits.Limits.{Limits}
 use Rattle.chains.specs.Lists.{Each}
 use Rattle.chains.specs.Chain.{firstRow, Chain}
@@ -45,8 +45,8 @@ module _ (l : Limits) where
       (shelf-says : (k : ℕ) → k < c → get shelves S k ≡ freshShelfRow l c k) (item-says : (k : ℕ) → k < c → get items I k ≡ freshItemRow l k) where
     next-fresh : (k n : ℕ) → k + suc n ≡ c → rowAfter c k ≡ firstRow (shelf .row) (freshShelves l (suc k) n)
     unfolding freshShelves freshShelf rowAfter
-    next-fresh k zero e = rw (eq-eqb (k + 1) c (omega arith))
-    next-fresh k (suc n) e = rw (ne-eqb (k + 1) c (λ q. omega arith)) (omega arith)
+    next-fresh k zero e = rw (le-ltb (k + 1) c (omega arith))
+    next-fresh k (suc n) e = rw (lt-ltb (k + 1) c (omega arith)) (omega arith)
 
     says : (k n : ℕ) → k + suc n ≡ c → freshShelfRow l c k ≡ shelf .says (rowBefore k) (freshShelf l k) (firstRow (shelf .row) (freshShelves l (suc k) n))
     unfolding freshShelfRow freshShelf isEmpty withShelfX withHeight withShelfPrev withShelfNext withFirstItem withFirstFree withEmpty

@@ -1,4 +1,5 @@
-// The allocator's inner functions over a header and two lent tables: each equals its definition in specs, and asks nothing of its caller.
+// The allocator's inner steps over a header and two lent tables: all their definitions, and the edits from which they are made. Each
+// function equals its definition in specs and asks nothing of its caller; the steps themselves are the crates `search`, `grant` and `release`.
 pub mod grant;
 pub mod init;
 pub mod item_edits;
@@ -6,5 +7,4 @@ pub mod live;
 pub mod release;
 pub mod search;
 pub mod shelf_edits;
-pub mod spare;
 pub mod wrap;

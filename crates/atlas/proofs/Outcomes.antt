@@ -1,0 +1,86 @@
+-- Any two outcomes that a promise allows are equal: the answer, the header, and every number of both tables. Assumes nothing.
+use Prim.Native.Nat.{ℕ}
+use mathlib.Core.Path.{_≡_, sym, _∙_}
+use mathlib.Core.List.{List}
+use lib.IntN.{ℤ}
+use Rattle.rows.specs.declared.header.Header.{Header}
+use Rattle.rules.specs.Atlas.{Atlas}
+use Rattle.rules.specs.Grant.{Outcome, refused, grants}
+use Rattle.rules.specs.Lies.{roomIn}
+use Rattle.rules.specs.Calls.{Made, refuses, makes, make}
+use Rattle.bridge.proofs.Calls.{one-outcome}
+use Rattle.atlas.specs.Answers.{releasing}
+use Rattle.atlas.specs.Listing.{Listable, tooShort, lists}
+use Rattle.atlas.specs.Promises.{Judged, fails, passes, Unchanged, CreatedAs, Creates, AllocatedAs, Allocates, RepliedAs, Releases, Clears, ListedAs, Lists}
+use Rattle.atlas.specs.declared.answers.Created.{Created}
+use Rattle.atlas.specs.declared.answers.Allocated.{Allocated}
+use Rattle.atlas.specs.declared.answers.Replied.{Replied}
+use Rattle.atlas.specs.declared.answers.Listing.{Listing}
+
+-- the first check fails for both or passes for both
+once : {Right O E : Type 0} {Had Had′ : O → Type 0} {refusal answer : O} → ((o : O) → Had o → Had′ o → E)
+    → Judged Right Had refusal answer → Judged Right Had′ refusal answer → E
+once same (fails n had) (fails m had′) = same _ had had′
+once same (fails n had) (passes p had′) = absurd (n p)
+once same (passes p had) (fails n had′) = absurd (n p)
+once same (passes p had) (passes q had′) = same _ had had′
+
+-- a call that changes nothing gives one answer
+pub one-answer : {Right A : Type 0} {r r′ refusal answer : A} → Judged Right (λ o. r ≡ o) refusal answer → Judged Right (λ o. r′ ≡ o) refusal answer → r ≡ r′
+one-answer = once (λ o e f. e ∙ sym f)
+
+module _ (S I S₁ I₁ S₂ I₂ : List ℕ) where
+  -- answer and header, and both tables
+  abbrev pub Same : {R : Type 0} → R → R → Type 0
+  Same r₁ r₂ = (r₁ ≡ r₂) × (S₁ ≡ S₂) × (I₁ ≡ I₂)
+
+  created : (r₁ r₂ : Created) (o : Made) → CreatedAs S I r₁ S₁ I₁ o → CreatedAs S I r₂ S₂ I₂ o → Same r₁ r₂
+  unfolding CreatedAs
+  created r₁ r₂ (refuses n) (a, u) (b, v) =
+      (λ z. record { answer = (a ∙ sym b) z; header = (u .header ∙ sym (v .header)) z }, u .shelves ∙ sym (v .shelves), u .items ∙ sym (v .items))
+  created r₁ r₂ (makes a′) (a, u) (b, v) =
+      let (header, S-same, I-same) = one-outcome S I (r₁ .header) (r₂ .header) S₁ I₁ S₂ I₂ a′ u v in
+      (λ z. record { answer = (a ∙ sym b) z; header = header z }, S-same, I-same)
+
+  pub one-create : (w h alignWidth alignHeight vertical columns : ℤ) (r₁ r₂ : Created)
+      → Creates S I w h alignWidth alignHeight vertical columns r₁ S₁ I₁ → Creates S I w h alignWidth alignHeight vertical columns r₂ S₂ I₂ → Same r₁ r₂
+  unfolding Creates
+  one-create w h alignWidth alignHeight vertical columns r₁ r₂ = created r₁ r₂ (make (roomIn S I) w h alignWidth alignHeight vertical columns)
+
+  module _ (h : Header) where
+    allocated : (r₁ r₂ : Allocated) (o : Outcome) → AllocatedAs h S I r₁ S₁ I₁ o → AllocatedAs h S I r₂ S₂ I₂ o → Same r₁ r₂
+    unfolding AllocatedAs
+    allocated r₁ r₂ (refused n) (a, u) (b, v) =
+        (λ z. record { answer = (a ∙ sym b) z; header = (u .header ∙ sym (v .header)) z }, u .shelves ∙ sym (v .shelves), u .items ∙ sym (v .items))
+    allocated r₁ r₂ (grants live a′) (a, u) (b, v) =
+        let (header, S-same, I-same) = one-outcome S I (r₁ .header) (r₂ .header) S₁ I₁ S₂ I₂ a′ u v in
+        (λ z. record { answer = (a ∙ sym b) z; header = header z }, S-same, I-same)
+
+    pub one-allocate : (w height : ℤ) (r₁ r₂ : Allocated) → Allocates h S I w height r₁ S₁ I₁ → Allocates h S I w height r₂ S₂ I₂ → Same r₁ r₂
+    unfolding Allocates
+    one-allocate w height r₁ r₂ = once (allocated r₁ r₂)
+
+    replied : (r₁ r₂ : Replied) (o : Made) → RepliedAs h S I r₁ S₁ I₁ o → RepliedAs h S I r₂ S₂ I₂ o → Same r₁ r₂
+    unfolding RepliedAs
+    replied r₁ r₂ (refuses n) (a, u) (b, v) =
+        (λ z. record { answer = (a ∙ sym b) z; header = (u .header ∙ sym (v .header)) z }, u .shelves ∙ sym (v .shelves), u .items ∙ sym (v .items))
+    replied r₁ r₂ (makes a′) (a, u) (b, v) =
+        let (header, S-same, I-same) = one-outcome S I (r₁ .header) (r₂ .header) S₁ I₁ S₂ I₂ a′ u v in
+        (λ z. record { answer = (a ∙ sym b) z; header = header z }, S-same, I-same)
+
+    pub one-release : (row generation : ℕ) (r₁ r₂ : Replied) → Releases h S I row generation r₁ S₁ I₁ → Releases h S I row generation r₂ S₂ I₂ → Same r₁ r₂
+    unfolding Releases
+    one-release row generation r₁ r₂ = once (replied r₁ r₂)
+
+    pub one-clear : (r₁ r₂ : Replied) → Clears h S I r₁ S₁ I₁ → Clears h S I r₂ S₂ I₂ → Same r₁ r₂
+    unfolding Clears
+    one-clear r₁ r₂ = once (replied r₁ r₂)
+
+listed : (out out₁ out₂ : List ℕ) (r₁ r₂ : Listing) (o : Listable) → ListedAs out r₁ out₁ o → ListedAs out r₂ out₂ o → (r₁ ≡ r₂) × (out₁ ≡ out₂)
+unfolding ListedAs
+listed out out₁ out₂ r₁ r₂ (tooShort n) (a, u) (b, v) = (a ∙ sym b, u ∙ sym v)
+listed out out₁ out₂ r₁ r₂ (lists ls) (a, u) (b, v) = (a ∙ sym b, u ∙ sym v)
+
+pub one-list : (h : Header) (S I out out₁ out₂ : List ℕ) (r₁ r₂ : Listing) → Lists h S I out r₁ out₁ → Lists h S I out r₂ out₂ → (r₁ ≡ r₂) × (out₁ ≡ out₂)
+unfolding Lists
+one-list h S I out out₁ out₂ r₁ r₂ = once (listed out out₁ out₂ r₁ r₂)
