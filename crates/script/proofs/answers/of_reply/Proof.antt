@@ -1,0 +1,22 @@
+use mathlib.Core.Path.{_≡_, refl, sym, ap, _∙_}
+use borrow.Author.Needs.{needs}
+use Rattle.script.specs.Answers.{replied}
+use Rattle.script.proofs.answers.of_reply.Statement.{statement}
+use Rattle.script.proofs.answers.of_reply.Tie as tie
+
+returns : tie.Need-returns
+unfolding replied
+returns c = sym (ap replied (c .enum-told .given .1))
+
+returns-2 : tie.Need-returns-2
+unfolding replied
+returns-2 c = sym (ap replied (c .before .reply .given .1))
+
+pub of-reply-spec : {M : Type 1} → statement M
+of-reply-spec =
+    tie.close
+    (tie.spec
+    (λ c. search needs)
+    (λ c. search needs)
+    returns
+    returns-2)

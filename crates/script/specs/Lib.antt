@@ -1,0 +1,4 @@
+pub mod Answers
+pub mod Ids
+pub mod Listing
+pub mod Step

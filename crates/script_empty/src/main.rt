@@ -1,0 +1,4 @@
+// The script program on an empty input: it answers nothing.
+fn main() {
+    app::run();
+}

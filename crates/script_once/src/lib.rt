@@ -1,0 +1,1 @@
+// A script line has one outcome; no code.
