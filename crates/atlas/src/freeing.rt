@@ -35,8 +35,9 @@ pub fn release(
         return refused(h, 8);
     }
     let at = ItemIndex(row);
+    let header = release_at(shelves, items, h, at);
     Replied {
         answer: Reply::Done,
-        header: release_at(shelves, items, h, at),
+        header,
     }
 }
