@@ -13,18 +13,12 @@ use Rattle.numbers.specs.Sides.{oneTo}
 use Rattle.numbers.specs.declared.limits.Limits.{Limits}
 use Rattle.rows.specs.declared.header.Header.{Header}
 use Rattle.chains.specs.Lists.{Decides}
-use Rattle.numbers.specs.Limits.{alongStep}
 use Rattle.rules.specs.Limits.{WithinLimits}
 use Rattle.rules.specs.Audit.{limitsOf}
 
 one-to : (most n : ℕ) → 1 ≤ n → n ≤ most → oneTo most n ≡ true
 unfolding oneTo
 one-to most n some few = rw (le-leb 1 n some, le-leb n most few)
-
--- both crates' names for the alignment along the shelves
-same-step : (l : Limits) → numbers.alongStep l ≡ alongStep l
-unfolding numbers.alongStep along alongStep
-same-step l = refl
 
 sizes-good : (l : Limits) → WithinLimits l → sizesGood (l .width) (l .height) ≡ true
 unfolding sizesGood
@@ -38,7 +32,7 @@ options-good l w =
 
 shelf-good : (l : Limits) → WithinLimits l → shelfWidthGood (l .width) (l .«shelf_width») (numbers.alongStep l) ≡ true
 unfolding shelfWidthGood
-shelf-good l w = rw (one-to (l .width) (l .«shelf_width») (w .S-least) (w .S-most), same-step l) (eq-eqb _ _ (w .S-aligned))
+shelf-good l w = rw (one-to (l .width) (l .«shelf_width») (w .S-least) (w .S-most)) (eq-eqb _ _ (w .S-aligned))
 
 all-tests : (l : Limits) → WithinLimits l → withinLimits l ≡ true
 unfolding withinLimits
@@ -60,5 +54,5 @@ within-decides l test e = record { sound = λ t. sound (within-true l (sym e ∙
     vertical = w .options .flag;
     S-least = w .some-shelf-width;
     S-most = w .most-shelf-width;
-    S-aligned = rw (same-step l) at (w .multiple);
+    S-aligned = w .multiple;
   }
