@@ -12,7 +12,7 @@ use Rattle.numbers.specs.declared.limits.Made.the-variants.{Good, Refuse
 use Rattle.numbers.specs.Pick.{pick}
 use Rattle.numbers.specs.Tests.{both}
 use Rattle.numbers.specs.Axes.{along}
-use Rattle.numbers.specs.Sides.{oneTo}
+use Rattle.numbers.specs.Sides.{oneTo, natural, flagOf}
 use Rattle.numbers.specs.Limits.{sizesGood, optionsGood, shelfWidthOf, shelfWidthGood, alongStep, withinLimits, limitsFor, judgedLimits, createNumbers, shelf-width-most}
 
 -- S is a multiple of the step
@@ -66,5 +66,6 @@ pub created-within :
     → withinLimits made ≡ true
 unfolding createNumbers
 created-within w h alignWidth alignHeight vertical columns made e =
-    let t = accepted-tests _ _ made e in
-    rw (← (t .2)) (kept _ _ _ _ _ _ (t .0) (t .1))
+    let l : Limits = limitsFor (natural w) (natural h) (natural alignWidth) (natural alignHeight) (flagOf vertical) (natural columns) in
+    let t = accepted-tests (natural columns) l made e in
+    rw (← (t .2)) (kept (natural w) (natural h) (natural alignWidth) (natural alignHeight) (flagOf vertical) (natural columns) (t .0) (t .1))

@@ -1,0 +1,12 @@
+pub mod Outcome
+pub mod Made
+pub mod Answers
+pub mod Inward
+pub mod Served
+pub mod Depths
+pub mod Loosed
+pub mod Released
+pub mod Held
+pub mod Taken
+pub mod Placed
+pub mod Calls

@@ -1,0 +1,144 @@
+-- A grant at a place: the item granted is found in the atlas that the rules make, and the step changes rows in use only. Assumes nothing.
+use Prim.Native.Nat.{ℕ, _≤_, _<_}
+use mathlib.Core.Path.{_≡_, refl, sym, ap, _∙_}
+use mathlib.Core.Logic.{inl, inr}
+use mathlib.Core.Bool.{Bool, true, false}
+use mathlib.Core.Option.{some}
+use mathlib.Core.List.{List, [], _∷_, List·Memᴰ·head, Memᴰ·append-left}
+use native.Mathlib.Omega.{arith}
+use Rattle.numbers.specs.declared.request.Asked.{Asked}
+use Rattle.chains.specs.Lists.{_∈_, Each, Focus, back-onto}
+use Rattle.chains.specs.Chain.{firstRow}
+use Rattle.chains.proofs.Chains.{in-onto}
+use Rattle.rows.specs.Row.{rows, get}
+use Rattle.rows.specs.Item.{items}
+use Rattle.rows.specs.Shelf.{shelves}
+use Rattle.rows.specs.Pool.{newItem}
+use Rattle.rows.specs.declared.header.Header.{Header}
+use Rattle.rules.specs.Atlas.{Item, Shelf, Rows, Atlas}
+use Rattle.rules.specs.Grant.{newRow, taken, rowsLeft, splitsItem, itemTaken, granted, holding, grantWhole, grantPart, liveOf, grants, place}
+use Rattle.rules.specs.Release.{Found}
+use Rattle.rules.specs.Lies.{headerOf, roomIn}
+use Rattle.rules.specs.Keeps.{itemRows, allItemRows, AllListed}
+use Rattle.keeps.proofs.Finding.{FoundAt}
+use Rattle.steps.specs.State.{State}
+use Rattle.steps.specs.Live.{atRow}
+use Rattle.steps.specs.Spare.{splitsItem as splitsRow}
+use Rattle.steps.specs.Grant.{takePart, takeWhole, takeItem}
+use Rattle.opening.proofs.Standing.{Stands, onRow, used-items}
+use Rattle.opening.proofs.Taking.{freedRow, Fresh, fresh, item-new}
+use Rattle.opening.proofs.Placing.{splits-same}
+use Rattle.stacking.proofs.Past.{Past}
+use Rattle.bridge.proofs.Inward.{Inward}
+use Rattle.bridge.proofs.Served.{inward}
+use Rattle.bridge.proofs.Taken.{TakenRow, taken-row, whole-past, part-past, use-past}
+
+-- the atlas in which the shelf of the place stands before `below`
+abbrev pub before-grant : Atlas → Focus Shelf → List Shelf → Rows → Atlas
+before-grant a f below r = record { limits = a .limits; shelves = back-onto (f .before) (f .this ∷ below); rows = r }
+
+-- What a grant at a place comes to: the atlas after it, the item granted where it stands there, and tables changed in used rows only.
+pub record Placement (a : Atlas) (asked : Asked) (f : Focus Shelf) (w : Focus Item) (below : List Shelf) (r : Rows) (st : State) : Type 0 where
+  pub after : Atlas
+  pub found : Found
+  pub is : place a asked f w below r ≡ grants (liveOf (a .limits) (f .this) (found .item .this)) after
+  pub found-at : FoundAt (w .this .row) (after .shelves) (after .shelves) (some found)
+  pub same-live : liveOf (after .limits) (found .shelf .this) (found .item .this) ≡ liveOf (a .limits) (f .this) (found .item .this)
+  pub more-shelves : r .shelves .used ≤ after .rows .shelves .used
+  pub more-items : r .items .used ≤ after .rows .items .used
+  pub shelves-past : Past shelves (after .rows .shelves .used) (st .shelves) (takeItem st (onRow (f .this .row)) (atRow (w .this .row)) asked .shelves)
+  pub items-past : Past items (after .rows .items .used) (st .items) (takeItem st (onRow (f .this .row)) (atRow (w .this .row)) asked .items)
+
+module _ (st : State) (a : Atlas) (f : Focus Shelf) (w : Focus Item) (below : List Shelf) (r : Rows) (asked : Asked)
+    (items-are : f .this .items ≡ back-onto (w .before) (w .this ∷ w .after))
+    (stands : Stands st (before-grant a f below r)) (all : Each AllListed (back-onto (f .before) (f .this ∷ below)))
+    (left : splitsItem asked (w .this) ≡ true → 0 < rowsLeft (rows items (st .items)) (r .items)) where
+  abbrev s : Shelf
+  s = f .this
+
+  abbrev i : Item
+  i = w .this
+
+  abbrev a₀ : Atlas
+  a₀ = before-grant a f below r
+
+  shelf-used : s .row < r .shelves .used
+  shelf-used =
+      stands .sound .shelf-rows .serving-used (s .row) (in-onto (λ (q : Shelf). q .row ∷ []) (s .row) (f .before) (s ∷ below) (inr (List·Memᴰ·head refl)))
+
+  item-used : i .row < r .items .used
+  item-used =
+      let mine : i .row ∈ itemRows (s .items) = rw items-are (in-onto (λ (q : Item). q .row ∷ []) (i .row) (w .before) (i ∷ w .after) (inr (List·Memᴰ·head refl))) in
+      stands .sound .item-rows .serving-used (i .row) (in-onto (λ (q : Shelf). itemRows (q .items)) (i .row) (f .before) (s ∷ below) (inr (Memᴰ·append-left (allItemRows below) mine)))
+
+  links : Inward (r .items .used) (st .items) (st .items)
+  links = inward st a₀ stands all (omega (arith, item-used))
+
+  chooses : (b : Bool) → splitsItem asked i ≡ b → splitsRow asked (get items (st .items) (i .row)) ≡ b
+  chooses b e = splits-same st a₀ (record { before = f .before; this = s; after = below }) w refl items-are stands asked ∙ e
+
+  -- ---- the whole item
+
+  whole-step : splitsItem asked i ≡ false → takeItem st (onRow (s .row)) (atRow (i .row)) asked ≡ takeWhole st (onRow (s .row)) (atRow (i .row))
+  unfolding takeItem
+  whole-step e = rw (chooses false e)
+
+  whole : splitsItem asked i ≡ false → Placement a asked f w below r st
+  unfolding place grantWhole granted holding liveOf takeWhole
+  whole e = record {
+    after = record { limits = a .limits; shelves = back-onto (f .before) (grantWhole s w ∷ below); rows = r };
+    found = record {
+      shelf = record { before = f .before; this = grantWhole s w; after = below };
+      item = record { before = w .before; this = granted i (i .width); after = w .after };
+    };
+    is = rw e;
+    found-at = (refl, refl, refl);
+    same-live = refl;
+    more-shelves = omega arith;
+    more-items = omega arith;
+    shelves-past = rw (whole-step e) (use-past (r .shelves .used) (st .shelves) (onRow (s .row)) (atRow (i .row)) _ shelf-used);
+    items-past = rw (whole-step e) (whole-past (r .items .used) (st .items) (atRow (i .row)) links (inl item-used));
+  }
+
+  -- ---- a part of it, with a row for the rest
+
+  part-step : splitsItem asked i ≡ true → takeItem st (onRow (s .row)) (atRow (i .row)) asked ≡ takePart st (onRow (s .row)) (atRow (i .row)) (asked .width)
+  unfolding takeItem
+  part-step e = rw (chooses true e)
+
+  new-row : splitsItem asked i ≡ true → newItem (st .header) ≡ atRow (newRow freedRow (r .items))
+  unfolding headerOf
+  new-row e =
+      item-new (st .items) (st .header) (allItemRows (a₀ .shelves)) (r .items) (ap (λ (q : Header). q .«free_items» .0) (stands .lies .header)) (ap (λ (q : Header). q .«used_items») (stands .lies .header))
+      (used-items st a₀ stands) (left e) (stands .sound .item-rows) (stands .lies .freed-items)
+
+  part-items : splitsItem asked i ≡ true → Past items (taken (r .items) .used) (st .items) (takePart st (onRow (s .row)) (atRow (i .row)) (asked .width) .items)
+  unfolding takePart
+  part-items e =
+      let t : TakenRow freedRow (r .items) = taken-row freedRow (r .items) (allItemRows (a₀ .shelves)) (stands .sound .item-rows) in
+      let k : Fresh freedRow (rows items (st .items)) (allItemRows (a₀ .shelves)) (r .items) = fresh freedRow _ _ (r .items) (used-items st a₀ stands) (left e) (stands .sound .item-rows) in
+      part-past (r .items .used) (taken (r .items) .used) (st .items) (st .header) (atRow (i .row)) (asked .width) links item-used
+      (t .more) (k .in-room) (rw (new-row e) (t .there)) (rw (new-row e) (t .cover))
+
+  part : splitsItem asked i ≡ true → Placement a asked f w below r st
+  unfolding place grantPart granted holding liveOf itemTaken takePart
+  part e = record {
+    after = record { limits = a .limits; shelves = back-onto (f .before) (grantPart r s w (asked .width) ∷ below); rows = itemTaken r };
+    found = record {
+      shelf = record { before = f .before; this = grantPart r s w (asked .width); after = below };
+      item = record { before = w .before; this = granted i (asked .width); after = _ };
+    };
+    is = rw e;
+    found-at = (refl, refl, refl);
+    same-live = refl;
+    more-shelves = omega arith;
+    more-items = taken-row freedRow (r .items) (allItemRows (a₀ .shelves)) (stands .sound .item-rows) .more;
+    shelves-past = rw (part-step e) (use-past (r .shelves .used) (st .shelves) (onRow (s .row)) (atRow (i .row)) _ shelf-used);
+    items-past = rw (part-step e) (part-items e);
+  }
+
+  pub placement : Placement a asked f w below r st
+  placement = go (splitsItem asked i) refl where
+    go : (b : Bool) → splitsItem asked i ≡ b → Placement a asked f w below r st
+    go true e = part e
+    go false e = whole e

@@ -1,0 +1,68 @@
+-- A grant changes item rows in use only, those that are then in use included, and one shelf row. Assumes nothing.
+use Prim.Native.Nat.{ℕ, _+_, _≤_, _<_}
+use mathlib.Core.Path.{_≡_, refl, ap}
+use mathlib.Core.Logic.{_⊎_, inl, inr}
+use mathlib.Core.List.{List, [], _∷_, List·Memᴰ·head}
+use native.Mathlib.Decide.{ℕ-discrete}
+use native.Mathlib.Omega.{arith}
+use Rattle.numbers.specs.declared.index.ItemIndex.{ItemIndex}
+use Rattle.numbers.specs.declared.index.ShelfIndex.{ShelfIndex}
+use Rattle.rows.specs.Row.{rows, get}
+use Rattle.rows.specs.Item.{items}
+use Rattle.rows.specs.Shelf.{shelves}
+use Rattle.rows.specs.Pool.{newItem, addItem, newGeneration}
+use Rattle.rows.specs.declared.header.Header.{Header}
+use Rattle.chains.specs.Lists.{_∈_}
+use Rattle.rules.specs.Atlas.{Freed, Pool}
+use Rattle.rules.specs.Grant.{newRow, taken}
+use Rattle.rules.specs.Keeps.{Shared}
+use Rattle.steps.specs.ItemEdits.{markLive, splitItem}
+use Rattle.steps.specs.Grant.{useShelf, takePartItems, takeWholeItems}
+use Rattle.opening.proofs.Taking.{rowsIn}
+use Rattle.stacking.proofs.Past.{Past, past-same, past-change}
+use Rattle.bridge.proofs.Inward.{Below, Linked, Inward, linked-at, inward-change, inward-new, linked-live, linked-span, linked-prev, linked-rest, below-more, inward-unlist, inward-relist}
+
+-- ---- the rows in use once one is taken
+
+module _ {E : Type 0} (row : E → ℕ) where
+  -- the row taken is one of them, every other was in use before, and none is lost
+  pub record TakenRow (p : Pool E) : Type 0 where
+    pub there : newRow row p < taken p .used
+    pub more : p .used ≤ taken p .used
+    pub cover : (r : ℕ) → r < taken p .used → (r ≡ newRow row p) ⊎ (r < p .used)
+
+  pub taken-row : (p : Pool E) (serving : List ℕ) → Shared (p .used) serving (rowsIn row (p .freed)) → TakenRow p
+  unfolding newRow taken
+  taken-row p serving shared = go (p .used) (p .freed) (λ r m. shared .freed-exactly r .0 m .0) where
+    go : (used : ℕ) (freed : List E) → ((r : ℕ) → r ∈ rowsIn row freed → r < used) → TakenRow (record { used = used; freed = freed })
+    go used [] b = record { there = omega arith; more = omega arith; cover = λ r d. last r (ℕ-discrete r used) d } where
+      last : (r : ℕ) → Dec (r ≡ used) → r < used + 1 → (r ≡ used) ⊎ (r < used)
+      last r (yes e) d = inl e
+      last r (no k) d = inr (omega arith)
+    go used (f ∷ freed) b = record { there = b (row f) (List·Memᴰ·head refl); more = omega arith; cover = λ r d. inr d }
+
+-- ---- the item table
+
+pub whole-past : (n : ℕ) (I : List ℕ) (at : ItemIndex) → Inward n I I → Below n (at .0) → Past items n I (takeWholeItems I at)
+unfolding takeWholeItems
+whole-past n I at w b = inward-change (inward-unlist w at b) (at .0) markLive b (linked-live n) .past
+
+module _ (m n : ℕ) (I : List ℕ) (h : Header) (at : ItemIndex) (width : ℕ) (w : Inward m I I) (b : at .0 < m)
+    (more : m ≤ n) (room : n ≤ rows items I) (there : newItem h .0 < n) (cover : (r : ℕ) → r < n → (r ≡ newItem h .0) ⊎ (r < m)) where
+  inward-split : Inward n I (splitItem I h at width)
+  unfolding splitItem addItem
+  inward-split =
+      let next : Below n (get items I (at .0) .next .0) = below-more m n _ more (w .linked (at .0) b .next) in
+      let here : Below n (at .0) = inl (omega arith) in
+      let new : Inward n I _ = inward-new w n (newItem h .0) _ more room there cover (linked-rest n (get items I (at .0)) at width (newGeneration I h) here next) in
+      inward-change (inward-change new (at .0) _ here (linked-span n width (newItem h) (inl there))) _ _ next (linked-prev n (newItem h) (inl there))
+
+  pub part-past : Past items n I (takePartItems I h at width)
+  unfolding takePartItems
+  part-past = let here : Below n (at .0) = inl (omega arith) in inward-change (inward-relist inward-split at (newItem h) here (inl there)) (at .0) markLive here (linked-live n) .past
+
+-- ---- the shelf table
+
+pub use-past : (n : ℕ) (S : List ℕ) (on : ShelfIndex) (item new : ItemIndex) → on .0 < n → Past shelves n S (useShelf S on item new)
+unfolding useShelf
+use-past n S on item new b = past-change shelves n (past-same shelves n S) (on .0) _ (inl b)

@@ -1,0 +1,1 @@
+// The steps on tables refine the rules; no code.

@@ -1,0 +1,1 @@
+// What is found in tables in which an atlas lies; no code.

@@ -1,0 +1,1 @@
+// What an atlas keeps is proved of the rules; there is no code.

@@ -1,0 +1,61 @@
+use native.Mathlib.Omega.{arith}
+use mathlib.Core.Path.{sym, _∙_}
+use borrow.Author.Needs.{needs}
+use Rattle.lines.specs.Line.{at, createArgs}
+use Rattle.lines.proofs.Words.{by-six, by-two, by-none, by-count, back}
+use Rattle.lines.proofs.read.of_letter.Statement.{statement}
+use Rattle.lines.proofs.read.of_letter.Tie as tie
+
+returns : tie.Need-returns
+unfolding createArgs
+returns c =
+    let s = c .before .before .before .before .before .before .before .before in
+    let v = s .args .numbers .now in
+    c .of-six .ensures
+    ∙ simp (
+      back (at v 0) (c .before .before .before .before .before .before .t6 .given),
+      back (at v 1) (c .before .before .before .before .before .t8 .given),
+      back (at v 2) (c .before .before .before .before .t10 .given),
+      back (at v 3) (c .before .before .before .t12 .given),
+      back (at v 4) (c .before .before .t14 .given),
+      back (at v 5) (c .before .t16 .given),
+    )
+    (sym (by-six (s .args .letter) v (s .args .count) (s .pre) (c .before .before .before .before .before .before .before .if1 .taken)))
+
+returns-2 : tie.Need-returns-2
+returns-2 c =
+    let s = c .before .before .before .before .before in
+    let v = s .args .numbers .now in
+    c .of-two .ensures
+    ∙ simp (back (at v 0) (c .before .before .of-two-arg .given), back (at v 1) (c .before .of-two-arg2 .given))
+    (sym (by-two (s .args .letter) v (s .args .count) (s .pre) (c .before .before .before .if2 .taken)))
+
+returns-3 : tie.Need-returns-3
+returns-3 c =
+    let s = c .before .before .before .before in
+    c .of-none .ensures ∙ sym (by-none (s .args .letter) (s .args .numbers .now) (s .args .count) (s .pre) (c .before .if3 .taken))
+
+returns-4 : tie.Need-returns-4
+returns-4 c =
+    let s = c .before .before .before in
+    sym (by-count (s .args .letter) (s .args .numbers .now) (s .args .count) (s .pre) (omega arith) (c .before .if2 .left) (c .if3 .left))
+
+pub of-letter-spec : {M : Type 1} → statement M
+of-letter-spec =
+    tie.close
+    (tie.spec
+    (λ c. search needs)
+    (λ c. search needs)
+    (λ c. search needs)
+    (λ c. search needs)
+    (λ c. search needs)
+    (λ c. search needs)
+    (λ c κs. search needs)
+    returns
+    (λ c. search needs)
+    (λ c. search needs)
+    (λ c κs. search needs)
+    returns-2
+    (λ c κs. search needs)
+    returns-3
+    returns-4)

@@ -1,0 +1,150 @@
+use Prim.Native.Nat.{ℕ, _+_, _-_, _≤_}
+use native.Mathlib.Omega.{arith}
+use borrow.Author.Needs.{needs}
+use mathlib.Core.Path.{_≡_, refl, sym, ap, _∙_, subst}
+use Rattle.lines.proofs.Words.{Claim, claim-start, claim-more, claim-bad, claim-full, claim-end, said-bad, word-of, back}
+use Rattle.lines.specs.Numeral.{numberOf}
+use Rattle.lines.specs.Line.{firstWord}
+use Rattle.lines.specs.declared.numeral.Number.the-variants.{NoNumber, Is}
+use lib.Seq.{length-take-le, take-suc-set}
+use lib.ListN.{length, drop, take, set, getD, length-set}
+use lib.IntN.{ℤ}
+use mathlib.Core.List.{List}
+use native.Mathlib.Numerals.{add-one}
+use Rattle.lines.proofs.read.read_words.Statement.{statement}
+use Rattle.lines.proofs.read.read_words.Tie as tie
+
+abbrev Inv-loop : tie.InvT-loop
+Inv-loop line first letter numbers₀ count₀ at₀ numbers count at =
+    (at ≤ length line) × (count ≤ 6) × (6 ≡ length numbers) × Claim line letter (take count numbers) at
+
+abbrev μ-loop : tie.MeasureT-loop
+μ-loop line first letter numbers₀ count₀ at₀ numbers count at = length line - at
+
+word-end-requires : tie.Need-word-end-requires Inv-loop μ-loop
+word-end-requires c κs = search needs
+
+returns : tie.Need-returns Inv-loop μ-loop
+returns c =
+    let l = c .before .before .before .args .line .now in
+    let q : c .before .word-end .result ≡ 0 + length (firstWord l) = c .before .word-end .ensures .0 in
+    sym (said-bad l (λ e. c .if1 .taken (omega arith)))
+
+shared-slice-read-letter : tie.Need-shared-slice-read-letter Inv-loop μ-loop
+shared-slice-read-letter c = search needs
+
+loop-holds : tie.Need-loop-holds Inv-loop μ-loop
+loop-holds c =
+    let l = c .before .before .before .before .args .line .now in
+    let q : c .before .before .word-end .result ≡ 0 + length (firstWord l) = c .before .before .word-end .ensures .0 in
+    let o : c .before .before .word-end .result ≡ 1 = c .before .if1 .left in
+    (omega arith, omega arith, refl, claim-start l (omega arith))
+
+returns-2 : tie.Need-returns-2 Inv-loop μ-loop
+returns-2 c =
+    let l = c .before .before .before .before .before .before .before .args .line .now in
+    let p = c .before .before .loop in
+    let n : length (take (p .count) (p .numbers)) ≡ p .count = length-take-le (p .count) (p .numbers) (omega arith) in
+    sym (claim-full l _ (take (p .count) (p .numbers)) (p .at) (p .inv .3) (c .before .loop-test .taken) (omega arith))
+
+add-from : tie.Need-add-from Inv-loop μ-loop
+add-from c = search needs
+
+word-end-requires-2 : tie.Need-word-end-requires-2 Inv-loop μ-loop
+word-end-requires-2 c κs = search needs
+
+sub-read-number : tie.Need-sub-read-number Inv-loop μ-loop
+sub-read-number c = search needs
+
+part-read-number-start : tie.Need-part-read-number-start Inv-loop μ-loop
+part-read-number-start c = search needs
+
+part-read-number-end : tie.Need-part-read-number-end Inv-loop μ-loop
+part-read-number-end c = search needs
+
+read-number-requires : tie.Need-read-number-requires Inv-loop μ-loop
+read-number-requires c κs = search needs
+
+enum-told : tie.Need-enum-told Inv-loop μ-loop
+enum-told c = search needs
+
+returns-3 : tie.Need-returns-3 Inv-loop μ-loop
+returns-3 c =
+    let l = c .before .before .before .before .before .before .before .before .before .before .before .before .args .line .now in
+    let p = c .before .before .before .before .before .before .before .loop in
+    let q : c .before .before .before .before .word-end2 .result ≡ p .at + 1 + length (firstWord (drop (p .at + 1) l)) = c .before .before .before .before .word-end2 .ensures .0 in
+    let r : c .before .before .read-number .result ≡ numberOf (take (c .before .before .before .before .word-end2 .result - (p .at + 1)) (drop (p .at + 1) l)) = c .before .before .read-number .ensures in
+    let w : numberOf (firstWord (drop (p .at + 1) l)) ≡ NoNumber = ap numberOf (sym (word-of l (p .at + 1) _ q)) ∙ sym r ∙ c .enum-told .given .1 in
+    sym (claim-bad l _ (take (p .count) (p .numbers)) (p .at) (p .inv .3) _ (c .before .before .before .before .before .before .loop-test .taken) q w)
+
+enum-known-w : tie.Need-enum-known-w Inv-loop μ-loop
+enum-known-w c = search needs
+
+mul-numbers : tie.Need-mul-numbers Inv-loop μ-loop
+mul-numbers c = search needs
+
+array-set-from-numbers : tie.Need-array-set-from-numbers Inv-loop μ-loop
+array-set-from-numbers c = search needs
+
+add-count : tie.Need-add-count Inv-loop μ-loop
+add-count c = search needs
+
+loop-less : tie.Need-loop-less Inv-loop μ-loop
+loop-less c = search needs
+
+loop-again : tie.Need-loop-again Inv-loop μ-loop
+loop-again c =
+    let l = c .before .before .before .before .before .before .before .before .before .before .before .before .before .args .line .now in
+    let p = c .before .before .before .before .before .before .before .before .loop in
+    let z = c .before .w .given .0 .0 in
+    let q : c .before .before .before .before .before .word-end2 .result ≡ p .at + 1 + length (firstWord (drop (p .at + 1) l)) = c .before .before .before .before .before .word-end2 .ensures .0 in
+    let r : c .before .before .before .read-number .result ≡ numberOf (take (c .before .before .before .before .before .word-end2 .result - (p .at + 1)) (drop (p .at + 1) l)) = c .before .before .before .read-number .ensures in
+    let w : numberOf (firstWord (drop (p .at + 1) l)) ≡ Is z = ap numberOf (sym (word-of l (p .at + 1) _ q)) ∙ sym r ∙ c .before .w .given .1 in
+    let k = claim-more l _ (take (p .count) (p .numbers)) (p .at) (p .inv .3) _ z (c .before .before .before .before .before .before .before .loop-test .taken) q w in
+    rw (back z (c .known-told .given .0 .1)) (
+      c .before .before .before .before .before .word-end2 .ensures .1,
+      omega arith,
+      p .inv .2 ∙ sym (length-set (p .numbers) (p .count) z),
+      subst (λ (zs : List ℤ). Claim l (getD l 0 0) zs (c .before .before .before .before .before .word-end2 .result)) (sym (take-suc-set (p .numbers) (p .count) z (omega arith)) ∙ ap (λ (m : ℕ). take m (set (p .numbers) (p .count) z)) (sym (add-one (p .count)))) k,
+    )
+
+slice-aggregate-of-letter : tie.Need-slice-aggregate-of-letter Inv-loop μ-loop
+slice-aggregate-of-letter c = search needs
+
+of-letter-requires : tie.Need-of-letter-requires Inv-loop μ-loop
+of-letter-requires c κs = search needs
+
+returns-4 : tie.Need-returns-4 Inv-loop μ-loop
+returns-4 c =
+    let l = c .before .before .before .before .before .before .before .before .args .line .now in
+    let p = c .before .before .before .loop in
+    c .of-letter .ensures ∙ sym (claim-end l _ (take (p .count) (p .numbers)) (p .at) (p .inv .3) (c .before .before .loop-test .left))
+
+pub read-words-spec : {M : Type 1} → statement M
+read-words-spec =
+    tie.close
+    (tie.spec
+    Inv-loop
+    μ-loop
+    word-end-requires
+    returns
+    shared-slice-read-letter
+    loop-holds
+    returns-2
+    add-from
+    word-end-requires-2
+    sub-read-number
+    part-read-number-start
+    part-read-number-end
+    read-number-requires
+    enum-told
+    returns-3
+    enum-known-w
+    mul-numbers
+    array-set-from-numbers
+    add-count
+    loop-less
+    loop-again
+    slice-aggregate-of-letter
+    of-letter-requires
+    returns-4)

@@ -1,0 +1,60 @@
+use Prim.Native.Nat.{_+_, _-_, _≤_}
+use native.Mathlib.Omega.{arith}
+use borrow.Author.Needs.{needs}
+use borrow.Author.Tests.{eq-eqb, ne-eqb}
+use mathlib.Core.Path.{_≡_, refl}
+use lib.ListN.{length, drop, getD}
+use Rattle.lines.specs.Line.{firstWord}
+use Rattle.lines.proofs.Words.{word-stop, word-step, word-over}
+use Rattle.lines.proofs.read.word_end.Statement.{statement}
+use Rattle.lines.proofs.read.word_end.Tie as tie
+
+abbrev Inv-loop : tie.InvT-loop
+Inv-loop line from e₀ e =
+    (e ≤ length line) × (e + length (firstWord (drop e line)) ≡ from + length (firstWord (drop from line)))
+
+abbrev μ-loop : tie.MeasureT-loop
+μ-loop line from e₀ e = length line - e
+
+loop-holds : tie.Need-loop-holds Inv-loop μ-loop
+loop-holds c = (c .pre, refl)
+
+shared-slice-read-if1 : tie.Need-shared-slice-read-if1 Inv-loop μ-loop
+shared-slice-read-if1 c = search needs
+
+returns : tie.Need-returns Inv-loop μ-loop
+returns c =
+    let l = c .before .before .before .loop in
+    let s = c .before .before .before .before .args .line .now in
+    (omega (arith, l .inv .1, word-stop s (l .e) (c .before .before .loop-test .taken) (eq-eqb (getD s (l .e) 0) 32 (c .if1 .taken))), l .inv .0)
+
+add-e : tie.Need-add-e Inv-loop μ-loop
+add-e c = search needs
+
+loop-less : tie.Need-loop-less Inv-loop μ-loop
+loop-less c = search needs
+
+loop-again : tie.Need-loop-again Inv-loop μ-loop
+loop-again c =
+    let l = c .before .before .before .loop in
+    let s = c .before .before .before .before .args .line .now in
+    (omega arith, omega (arith, l .inv .1, word-step s (l .e) (c .before .before .loop-test .taken) (ne-eqb (getD s (l .e) 0) 32 (c .if1 .left))))
+
+returns-2 : tie.Need-returns-2 Inv-loop μ-loop
+returns-2 c =
+    let l = c .before .loop in
+    (omega (arith, l .inv .1, word-over (c .before .before .args .line .now) (l .e) (c .loop-test .left)), l .inv .0)
+
+pub word-end-spec : {M : Type 1} → statement M
+word-end-spec =
+    tie.close
+    (tie.spec
+    Inv-loop
+    μ-loop
+    loop-holds
+    shared-slice-read-if1
+    returns
+    add-e
+    loop-less
+    loop-again
+    returns-2)

@@ -1,0 +1,115 @@
+use Prim.Native.Nat.{_+_, _-_, _/_, _%_, _≤_, _<_}
+use native.Mathlib.Omega.{arith}
+use mathlib.Core.Path.{_≡_, refl, sym, ap, _∙_}
+use mathlib.Core.List.{append-nil}
+use lib.ListN.{length, drop, take, set, length-set, length-drop}
+use lib.Seq.{take-all}
+use borrow.Author.Needs.{needs}
+use Rattle.lines.specs.Put.{Puts, put-length}
+use Rattle.lines.specs.Text.{decimal}
+use Rattle.lines.proofs.Digits.{Found, found-more, found-all, ten, some, more-length}
+use Rattle.lines.proofs.text.put_number.Statement.{statement}
+use Rattle.lines.proofs.text.put_number.Tie as tie
+
+abbrev Inv-loop : tie.InvT-loop
+Inv-loop out at n digits₀ i₀ rest₀ digits i rest = Found n rest i digits
+
+abbrev μ-loop : tie.MeasureT-loop
+μ-loop out at n digits₀ i₀ rest₀ digits i rest = rest
+
+loop-holds : tie.Need-loop-holds Inv-loop μ-loop
+loop-holds c =
+    let n = c .before .args .n in
+    record { room = refl; last = omega arith; left = omega (arith, ten n (c .before .fits .n .fits)); all = sym (append-nil (decimal n)) }
+
+cast-digits : tie.Need-cast-digits Inv-loop μ-loop
+cast-digits c = search needs
+
+add-digits : tie.Need-add-digits Inv-loop μ-loop
+add-digits c = search needs
+
+array-write-digits : tie.Need-array-write-digits Inv-loop μ-loop
+array-write-digits c = search needs
+
+sub-i : tie.Need-sub-i Inv-loop μ-loop
+sub-i c =
+    let l = c .before .loop in
+    let h : 10 ≤ l .rest = omega arith in
+    omega (arith, more-length (l .rest) h, some (l .rest / 10), l .inv .left)
+
+loop-less : tie.Need-loop-less Inv-loop μ-loop
+loop-less c = search needs
+
+loop-again : tie.Need-loop-again Inv-loop μ-loop
+loop-again c =
+    let l = c .before .loop in
+    let d = 48 + l .rest % 10 in
+    let h : 9 < l .rest = omega arith in
+    let m : 2 ≤ l .i + 1 = omega (arith, more-length (l .rest) h, some (l .rest / 10), l .inv .left) in
+    let j : l .i - 1 + 1 ≡ l .i = omega arith in
+    record {
+      room = length-set (l .digits) (l .i) d ∙ l .inv .room;
+      last = omega (arith, l .inv .last);
+      left = omega (arith, more-length (l .rest) h, l .inv .left);
+      all = rw j (found-more _ (l .rest) (l .i) (l .digits) (l .inv) h);
+    }
+
+cast-digits-2 : tie.Need-cast-digits-2 Inv-loop μ-loop
+cast-digits-2 c = search needs
+
+add-digits-2 : tie.Need-add-digits-2 Inv-loop μ-loop
+add-digits-2 c = search needs
+
+array-write-digits-2 : tie.Need-array-write-digits-2 Inv-loop μ-loop
+array-write-digits-2 c = search needs
+
+sub-put-text : tie.Need-sub-put-text Inv-loop μ-loop
+sub-put-text c = search needs
+
+part-put-text-start : tie.Need-part-put-text-start Inv-loop μ-loop
+part-put-text-start c = search needs
+
+part-put-text-end : tie.Need-part-put-text-end Inv-loop μ-loop
+part-put-text-end c =
+    let l = c .before .before .before .loop in
+    let n : 10 ≤ length (set (l .digits) (l .i) (48 + l .rest)) = omega (arith, length-set (l .digits) (l .i) (48 + l .rest), l .inv .room) in
+    n
+
+put-text-requires : tie.Need-put-text-requires Inv-loop μ-loop
+put-text-requires c κs = search needs
+
+same-length : tie.Need-same-length Inv-loop μ-loop
+same-length c = search needs
+
+returns : tie.Need-returns Inv-loop μ-loop
+returns c =
+    let l = c .before .before .before .before .before .before .before .loop in
+    let d = set (l .digits) (l .i) (48 + l .rest) in
+    let n : length d ≡ 10 = length-set (l .digits) (l .i) (48 + l .rest) ∙ l .inv .room in
+    let e : take (10 - l .i) (drop (l .i) d) ≡ decimal (c .before .before .before .before .before .before .before .before .before .args .n)
+    = take-all (10 - l .i) (drop (l .i) d) (omega (arith, length-drop (l .i) d))
+    ∙ found-all _ (l .rest) (l .i) (l .digits) (l .inv) (omega arith) in
+    rw e at (c .before .before .put-text .ensures)
+
+pub put-number-spec : {M : Type 1} → statement M
+put-number-spec =
+    tie.close
+    (tie.spec
+    Inv-loop
+    μ-loop
+    loop-holds
+    cast-digits
+    add-digits
+    array-write-digits
+    sub-i
+    loop-less
+    loop-again
+    cast-digits-2
+    add-digits-2
+    array-write-digits-2
+    sub-put-text
+    part-put-text-start
+    part-put-text-end
+    put-text-requires
+    same-length
+    returns)

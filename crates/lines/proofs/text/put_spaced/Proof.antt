@@ -1,0 +1,76 @@
+use Prim.Native.Nat.{_≤_, _<_, _-_}
+use native.Mathlib.Omega.{arith}
+use mathlib.Core.Path.{_≡_}
+use lib.ListN.{length, take}
+use lib.Seq.{take-all}
+use borrow.Author.Needs.{needs}
+use Rattle.lines.specs.Put.{Puts, put-nothing, put-then, put-length}
+use Rattle.lines.specs.Text.{spaced}
+use Rattle.lines.proofs.Digits.{spaced-more}
+use Rattle.lines.proofs.text.put_spaced.Statement.{statement}
+use Rattle.lines.proofs.text.put_spaced.Tie as tie
+
+abbrev Inv-loop : tie.InvT-loop
+Inv-loop out₀ at numbers end₀ i₀ out end i = (i ≤ length numbers) × Puts out₀ at (spaced (take i numbers)) out end
+
+abbrev μ-loop : tie.MeasureT-loop
+μ-loop out₀ at numbers end₀ i₀ out end i = length numbers - i
+
+loop-holds : tie.Need-loop-holds Inv-loop μ-loop
+unfolding spaced
+loop-holds c = (omega arith, put-nothing _ _)
+
+put-byte-requires : tie.Need-put-byte-requires Inv-loop μ-loop
+put-byte-requires c κs = search needs
+
+mul-put-number : tie.Need-mul-put-number Inv-loop μ-loop
+mul-put-number c = search needs
+
+shared-slice-read-put-number : tie.Need-shared-slice-read-put-number Inv-loop μ-loop
+shared-slice-read-put-number c = search needs
+
+put-number-requires : tie.Need-put-number-requires Inv-loop μ-loop
+put-number-requires c κs = search needs
+
+add-i : tie.Need-add-i Inv-loop μ-loop
+add-i c = search needs
+
+loop-less : tie.Need-loop-less Inv-loop μ-loop
+loop-less c = search needs
+
+loop-again : tie.Need-loop-again Inv-loop μ-loop
+loop-again c =
+    let l = c .before .before .before .before .before .before .before .before .before .before .loop in
+    let numbers = c .before .before .before .before .before .before .before .before .before .before .before .before .before .args .numbers .now in
+    let h : l .i < length numbers = c .before .before .before .before .before .before .before .before .before .loop-test .taken in (
+      omega arith,
+      rw (spaced-more numbers (l .i) h)
+          (put-then (put-then (l .inv .1) (c .before .before .before .before .before .before .before .put-byte .ensures)) (c .before .before .put-number .ensures)),
+    )
+
+same-length : tie.Need-same-length Inv-loop μ-loop
+same-length c = put-length (c .before .loop .inv .1)
+
+returns : tie.Need-returns Inv-loop μ-loop
+returns c =
+    let l = c .before .loop in
+    let numbers = c .before .before .before .before .args .numbers .now in
+    let e : take (l .i) numbers ≡ numbers = take-all (l .i) numbers (omega arith) in
+    rw e at (l .inv .1)
+
+pub put-spaced-spec : {M : Type 1} → statement M
+put-spaced-spec =
+    tie.close
+    (tie.spec
+    Inv-loop
+    μ-loop
+    loop-holds
+    put-byte-requires
+    mul-put-number
+    shared-slice-read-put-number
+    put-number-requires
+    add-i
+    loop-less
+    loop-again
+    same-length
+    returns)

@@ -1,0 +1,107 @@
+-- Grants and releases of an opened shelf, made of the changes of an item table. Assumes nothing.
+use Prim.Native.Nat.{ℕ, _<_, _≤_, _+_}
+use mathlib.Core.Path.{_≡_, refl, sym, ap}
+use mathlib.Core.Logic.{inr, ⊎-elim}
+use mathlib.Core.Bool.{true, false}
+use mathlib.Core.List.{List, [], _∷_, _++_, List·Memᴰ·head, List·Memᴰ·cases-cons, Memᴰ·cast, Memᴰ·append-right}
+use Rattle.numbers.specs.declared.index.ItemIndex.{ItemIndex}
+use Rattle.chains.specs.Lists.{_∈_, back-onto}
+use Rattle.chains.specs.Chain.{firstRow, firstOf}
+use Rattle.chains.proofs.Chains.{onto-apart, in-onto, onto-in}
+use Rattle.rows.specs.Row.{rows}
+use Rattle.rows.specs.Change.{change}
+use Rattle.rows.specs.Item.{items}
+use Rattle.rows.specs.declared.header.Header.{Header}
+use Rattle.rules.specs.Atlas.{Item, Freed, Pool, Rows}
+use Rattle.rules.specs.Grant.{newRow, taken, rowsLeft, newItemRow, granted, rest-of}
+use Rattle.rules.specs.Release.{freeing, freeWith}
+use Rattle.rules.specs.Keeps.{itemRows}
+use Rattle.steps.specs.Live.{atRow}
+use Rattle.steps.specs.ItemEdits.{markLive, markFree, splitItem, joinNext, unlist, relist, enlist}
+use Rattle.steps.specs.Grant.{takePartItems, takeWholeItems}
+use Rattle.opening.proofs.Frames.{live-free}
+use Rattle.opening.proofs.Taking.{freedRow, item-new}
+use Rattle.opening.proofs.Open.{Open, once, listed, listed-row, unlist-open, relist-open, enlist-open}
+use Rattle.opening.proofs.Marks.{liveOf, freeOf, at-in, live-open, free-open}
+use Rattle.opening.proofs.Split.{split-open, new-out}
+use Rattle.opening.proofs.Join.{join-open}
+
+abbrev one : ℕ → List ℕ
+one r = r ∷ []
+
+-- ---- a grant
+
+module _ {I₀ I : List ℕ} {on : ℕ} {others : List ℕ} (r : Rows) (ib : List Item) (i : Item) (ia : List Item) (fb fa : List ℕ)
+    (o : Open I₀ I on (back-onto ib (i ∷ ia)) (back-onto fb (i .row ∷ fa)) (r .items) others) where
+  -- the whole item
+  pub whole-open : Open I₀ (takeWholeItems I (atRow (i .row))) on (back-onto ib (granted i (i .width) ∷ ia)) (back-onto fb fa) (r .items) others
+  unfolding takeWholeItems granted
+  whole-open =
+      let (db, dy, apart) = onto-apart one fb (i .row ∷ fa) (o .free-once) in
+      live-open ib i ia (unlist-open fb (i .row) fa o) (granted i (i .width)) refl
+      (λ m. ⊎-elim (λ k. apart (i .row) k (List·Memᴰ·head refl)) (dy .0) (onto-in one (i .row) fb fa m))
+
+  -- the left part of it
+  module _ (h : Header) (head : h .«free_items» .0 ≡ firstRow freedRow (r .items .freed)) (used : h .«used_items» ≡ r .items .used)
+      (left : 0 < rowsLeft (rows items I) (r .items)) (width : ℕ) (within : width ≤ i .width) (narrow : i .x + i .width ≤ 65535) where
+    part-is : takePartItems I h (atRow (i .row)) width
+        ≡ change items (relist (splitItem I h (atRow (i .row)) width) (atRow (i .row)) (atRow (newRow freedRow (r .items)))) (i .row) markLive
+    unfolding takePartItems
+    part-is =
+        ap (λ (k : ItemIndex). change items (relist (splitItem I h (atRow (i .row)) width) (atRow (i .row)) k) (i .row) markLive)
+        (item-new I h (itemRows (back-onto ib (i ∷ ia)) ++ others) (r .items) head used (o .room) left (o .shared) (o .freed))
+
+    pub part-open : Open I₀ (takePartItems I h (atRow (i .row)) width) on (back-onto ib (granted i width ∷ rest-of r i width ∷ ia)) (back-onto fb (newItemRow r ∷ fa)) (taken (r .items)) others
+    unfolding granted rest-of newItemRow
+    part-open =
+        let (db, dy, apart) = onto-apart one fb (i .row ∷ fa) (o .free-once) in
+        let new : ℕ = newRow freedRow (r .items) in
+        let i′ : Item = record { row = i .row; x = i .x; width = width; live = i .live; generation = i .generation } in
+        let n : Item = rest-of r i width in
+        let out : new ∈ itemRows (back-onto ib (i ∷ ia)) → ⊥ = new-out ib i ia o h head used left width within narrow in
+        rw part-is
+        (live-open ib i′ (n ∷ ia)
+        (relist-open fb (i .row) fa (split-open ib i ia o h head used left width within narrow) new
+        (in-onto freeOf new ib (i′ ∷ n ∷ ia) (inr (Memᴰ·append-right (freeOf i) (List·Memᴰ·head refl))))
+        (λ m. out (listed-row o new m)))
+        (granted i width) refl
+        (λ m. ⊎-elim
+        (λ k. apart (i .row) k (List·Memᴰ·head refl))
+        (λ k. ⊎-elim (λ e. out (Memᴰ·cast (sym e) (at-in ib i ia o))) (dy .0) (List·Memᴰ·cases-cons k))
+        (onto-in one (i .row) fb (new ∷ fa) m)))
+
+-- ---- a release
+
+module _ {I₀ I : List ℕ} {on : ℕ} {fl : List ℕ} {p : Pool Freed} {others : List ℕ} (ib : List Item) (i : Item) (ia : List Item)
+    (o : Open I₀ I on (back-onto ib (i ∷ ia)) fl p others) where
+  -- the item is free, and on no list yet
+  pub freed-open : i .live ≡ true → Open I₀ (change items I (i .row) markFree) on (back-onto ib (freeWith i (i .width) ∷ ia)) fl p others × (i .row ∈ listed fl → ⊥)
+  unfolding freeWith
+  freed-open e = (
+    free-open ib i ia o (freeWith i (i .width)) refl,
+    λ m. live-free (back-onto ib (i ∷ ia)) (once o) (i .row) (in-onto liveOf (i .row) ib (i ∷ ia) (inr (rw e (List·Memᴰ·head refl)))) (o .only (i .row) m),
+  )
+
+  -- it goes to the front of the free list
+  pub push-open : i .live ≡ false → (i .row ∈ listed fl → ⊥) → Open I₀ (enlist I (atRow (firstOf fl)) (atRow (i .row))) on (back-onto ib (i ∷ ia)) (i .row ∷ fl) p others
+  push-open e out = enlist-open o (i .row) (in-onto freeOf (i .row) ib (i ∷ ia) (inr (rw e (List·Memᴰ·head refl)))) out
+
+-- a free next item merged into it
+pub next-open : {I₀ I : List ℕ} {on : ℕ} {p : Pool Freed} {others : List ℕ} (ib : List Item) (i n : Item) (ia : List Item) (fb fa : List ℕ)
+    → Open I₀ I on (back-onto ib (freeWith i (i .width) ∷ n ∷ ia)) (back-onto fb (n .row ∷ fa)) p others
+    → (h : Header) → h .«free_items» .0 ≡ firstRow freedRow (p .freed) → i .width + n .width ≤ 65535
+    → Open I₀ (joinNext (unlist I (atRow (n .row))) h (atRow (i .row))) on (back-onto ib (freeWith i (i .width + n .width) ∷ ia)) (back-onto fb fa)
+    (freeing (record { row = n .row; generation = n .generation }) p) others
+unfolding freeWith
+next-open ib i n ia fb fa o h head narrow =
+    let (db, dy, apart) = onto-apart one fb (n .row ∷ fa) (o .free-once) in
+    join-open ib (freeWith i (i .width)) n ia (unlist-open fb (n .row) fa o)
+    (λ m. ⊎-elim (λ k. apart (n .row) k (List·Memᴰ·head refl)) (dy .0) (onto-in one (n .row) fb fa m)) h head narrow
+
+-- it is merged into a free previous item
+pub into-open : {I₀ I : List ℕ} {on : ℕ} {fl : List ℕ} {p : Pool Freed} {others : List ℕ} (ib : List Item) (b i : Item) (ia : List Item)
+    → Open I₀ I on (back-onto ib (b ∷ i ∷ ia)) fl p others → b .live ≡ false → (i .row ∈ listed fl → ⊥)
+    → (h : Header) → h .«free_items» .0 ≡ firstRow freedRow (p .freed) → b .width + i .width ≤ 65535
+    → Open I₀ (joinNext I h (atRow (b .row))) on (back-onto ib (freeWith b (b .width + i .width) ∷ ia)) fl (freeing (record { row = i .row; generation = i .generation }) p) others
+unfolding freeWith
+into-open ib b i ia o e out h head narrow = rw e at (join-open ib b i ia o out h head narrow)

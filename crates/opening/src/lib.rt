@@ -1,0 +1,1 @@
+// The theory of a shelf opened has no code.

@@ -1,0 +1,21 @@
+-- An empty shelf: its flag as a number, and its one free item. Assumes nothing.
+use mathlib.Core.Path.{_≡_, refl}
+use mathlib.Core.Bool.{Bool, true, false, not, false≢true}
+use mathlib.Core.List.{List, [], _∷_}
+use lib.Dec.{eqb}
+use Rattle.rules.specs.Atlas.{Item, isEmpty}
+use Rattle.rules.specs.Lies.{flag}
+
+pub flag-one : (b : Bool) → eqb (flag b) 1 ≡ b
+flag-one true = refl
+flag-one false = refl
+
+-- an empty shelf is one free item
+pub lone-item : (is : List Item) → isEmpty is ≡ true → (i : Item) × (is ≡ i ∷ []) × (i .live ≡ false)
+unfolding isEmpty
+lone-item [] e = absurd (false≢true e)
+lone-item (i ∷ []) e = (i, refl, not-true (i .live) e) where
+  not-true : (b : Bool) → not b ≡ true → b ≡ false
+  not-true true e = absurd (false≢true e)
+  not-true false e = refl
+lone-item (i ∷ j ∷ is) e = absurd (false≢true e)

@@ -1,0 +1,1 @@
+// The theory of the shelf chain has no code.

@@ -1,0 +1,23 @@
+use borrow.Author.Needs.{needs}
+use Rattle.rows.specs.Pool.{addedItem}
+use Rattle.steps.specs.Grant.{takePartItems, takePart}
+use Rattle.steps.proofs.grant.take_part.Statement.{statement}
+use Rattle.steps.proofs.grant.take_part.Tie as tie
+
+pub take-part-spec : {M : Type 1} → statement M
+unfolding takePart takePartItems addedItem
+take-part-spec =
+    tie.close
+    (tie.spec
+    (λ c κs. search needs)
+    (λ c κs. search needs)
+    (λ c κs. search needs)
+    (λ c κs. search needs)
+    (λ c. search needs)
+    (λ c. search needs)
+    (λ c. let u = c .before .before .before in let m = u .before .before .before .before in let l = m .before .before .before .before in let s = l .before .before .before .before .before in
+    record {
+      header = rw (s .split-item .ensures .0);
+      shelves = rw (u .use-shelf .ensures, s .split-item .ensures .0);
+      items = rw (m .mark-live .ensures, l .relist .ensures, s .split-item .ensures .0, s .split-item .ensures .1);
+    }))

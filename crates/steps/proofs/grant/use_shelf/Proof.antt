@@ -1,0 +1,15 @@
+use borrow.Author.Needs.{needs}
+use Rattle.steps.specs.Grant.{useShelf}
+use Rattle.steps.proofs.grant.use_shelf.Statement.{statement}
+use Rattle.steps.proofs.grant.use_shelf.Tie as tie
+
+pub use-shelf-spec : {M : Type 1} → statement M
+unfolding useShelf
+use-shelf-spec =
+    tie.close
+    (tie.spec
+    (λ c κs. search needs)
+    (λ c κs. search needs)
+    (λ c κs. search needs)
+    (λ c. search needs)
+    (λ c. rw (c .before .before .set-free .ensures, c .before .before .before .first-after .ensures, c .before .before .before .before .before .before .get-shelf .ensures)))

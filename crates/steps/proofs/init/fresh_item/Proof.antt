@@ -1,0 +1,14 @@
+use borrow.Author.Needs.{needs}
+use Rattle.rows.specs.Item.{withGeneration}
+use Rattle.steps.specs.Init.{freshItemRow}
+use Rattle.steps.proofs.init.fresh_item.Statement.{statement}
+use Rattle.steps.proofs.init.fresh_item.Tie as tie
+
+pub fresh-item-spec : {M : Type 1} → statement M
+unfolding withGeneration freshItemRow
+fresh-item-spec =
+    tie.close
+    (tie.spec
+    (λ c κs. search needs)
+    (λ c κs. search needs)
+    (λ c. rw (c .lone-item .ensures, c .before .mul-u16 .ensures)))

@@ -1,0 +1,16 @@
+use borrow.Author.Needs.{needs}
+use Rattle.steps.specs.ItemEdits.{relist}
+use Rattle.steps.proofs.item_edits.relist.Statement.{statement}
+use Rattle.steps.proofs.item_edits.relist.Tie as tie
+
+pub relist-spec : {M : Type 1} → statement M
+unfolding relist
+relist-spec =
+    tie.close
+    (tie.spec
+    (λ c κs. search needs)
+    (λ c κs. search needs)
+    (λ c κs. search needs)
+    (λ c κs. search needs)
+    (λ c. search needs)
+    (λ c. cc))

@@ -1,0 +1,16 @@
+use borrow.Author.Needs.{needs}
+use Rattle.steps.specs.Search.{holdsAny}
+use Rattle.steps.proofs.search.holds_any.Statement.{statement}
+use Rattle.steps.proofs.search.holds_any.Tie as tie
+
+pub holds-any-spec : {M : Type 1} → statement M
+unfolding holdsAny
+holds-any-spec =
+    tie.close
+    (tie.spec
+    (λ c. search needs)
+    (λ c. search needs)
+    (λ c. search needs)
+    (λ c. search needs)
+    (λ c. search needs)
+    (λ c. search needs))

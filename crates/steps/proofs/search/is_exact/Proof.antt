@@ -1,0 +1,18 @@
+use borrow.Author.Needs.{needs}
+use mathlib.Core.Path.{_≡_}
+use Rattle.steps.specs.declared.search.Held.the-variants.{Good}
+use Rattle.steps.specs.Search.{isExact}
+use Rattle.steps.proofs.search.is_exact.Statement.{statement}
+use Rattle.steps.proofs.search.is_exact.Tie as tie
+
+pub is-exact-spec : {M : Type 1} → statement M
+unfolding isExact
+is-exact-spec =
+    tie.close
+    (tie.spec
+    (λ c. search needs)
+    (λ c. search needs)
+    (λ c. search needs)
+    (λ c. let g = c .before .before .before .held .given in let e : c .before .before .before .before .before .args .held ≡ Good (g .0 .0) = g .1 in rw e)
+    (λ c. search needs)
+    (λ c. search needs))

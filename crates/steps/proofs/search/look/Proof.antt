@@ -1,0 +1,14 @@
+use borrow.Author.Needs.{needs}
+use Rattle.steps.specs.Search.{looked}
+use Rattle.steps.proofs.search.look.Statement.{statement}
+use Rattle.steps.proofs.search.look.Tie as tie
+
+pub look-spec : {M : Type 1} → statement M
+unfolding looked
+look-spec =
+    tie.close
+    (tie.spec
+    (λ c κs. search needs)
+    (λ c. rw (← (c .before .is-skipped .ensures), c .if1 .taken))
+    (λ c κs. search needs)
+    (λ c. rw (← (c .before .before .is-skipped .ensures), c .before .if1 .left) (c .try-shelf .ensures)))

@@ -1,0 +1,12 @@
+use borrow.Author.Needs.{needs}
+use Rattle.steps.specs.Spare.{count}
+use Rattle.steps.proofs.spare.count.Statement.{statement}
+use Rattle.steps.proofs.spare.count.Tie as tie
+
+pub count-spec : {M : Type 1} → statement M
+unfolding count
+count-spec =
+    tie.close
+    (tie.spec
+    (λ c. rw (c .if1 .taken))
+    (λ c. rw (c .if1 .left)))

@@ -1,0 +1,15 @@
+use borrow.Author.Needs.{needs}
+use borrow.Author.Tests.{eq-eqb, ne-eqb}
+use Rattle.steps.specs.Search.{shelfIsEmpty}
+use Rattle.steps.specs.Spare.{splitsShelf}
+use Rattle.steps.proofs.spare.splits_shelf.Statement.{statement}
+use Rattle.steps.proofs.spare.splits_shelf.Tie as tie
+
+pub splits-shelf-spec : {M : Type 1} → statement M
+unfolding splitsShelf shelfIsEmpty
+splits-shelf-spec =
+    tie.close
+    (tie.spec
+    (λ c. rw (ne-eqb _ _ (c .if1 .taken)))
+    (λ c κs. search needs)
+    (λ c. rw (eq-eqb _ _ (c .before .if1 .left), c .splits-shelf .ensures)))

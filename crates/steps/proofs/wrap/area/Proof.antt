@@ -1,0 +1,13 @@
+use borrow.Author.Needs.{needs}
+use Prim.Native.Nat.{_*_, _≤_}
+use native.Mathlib.Omega.{arith}
+use native.Mathlib.Nat.{mul-le-mul}
+use Rattle.steps.proofs.wrap.area.Statement.{statement}
+use Rattle.steps.proofs.wrap.area.Tie as tie
+
+pub area-spec : {M : Type 1} → statement M
+area-spec =
+    tie.close
+    (tie.spec
+    (λ c. let w : c .args .width ≤ 65535 = omega arith in let d : c .args .depth ≤ 65535 = omega arith in omega (arith, mul-le-mul w d))
+    (λ c. search needs))

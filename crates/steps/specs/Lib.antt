@@ -1,0 +1,10 @@
+pub mod Wrap
+pub mod State
+pub mod ItemEdits
+pub mod ShelfEdits
+pub mod Init
+pub mod Search
+pub mod Spare
+pub mod Live
+pub mod Grant
+pub mod Release

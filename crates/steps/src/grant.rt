@@ -1,0 +1,133 @@
+// An item granted: shelf and item are split where they are large enough. The rows have to suffice.
+ghost use mathlib.Core.Path.{_≡_};
+ghost use Rattle.steps.specs.State.{State, state, Are};
+ghost use Rattle.steps.specs.Grant.{fitShelf, useShelf, takePart, takeWhole, takeItem, occupied, grantAt, grantedAt};
+use crate::item_edits;
+use crate::live;
+use crate::search::Place;
+use crate::shelf_edits;
+use crate::spare;
+use crate::wrap;
+use numbers::index::ItemIndex;
+use numbers::index::ShelfIndex;
+use numbers::request::Asked;
+use rows::header::Header;
+use rows::item;
+use rows::live::Live;
+use rows::shelf;
+
+pub struct Granted {
+    pub live: Live,
+    pub header: Header,
+}
+
+// An empty shelf that is deep enough is split.
+pub fn fit_shelf(
+    shelves: &mut [u16],
+    items: &mut [u16],
+    h: Header,
+    at: ShelfIndex,
+    asked: Asked,
+) -> Header
+    ensures { λ r. ⌜ Are (fitShelf (state h (now (shelves .entry)) (now (items .entry))) at asked) r (now (shelves .exit)) (now (items .exit)) ⌝ }
+{
+    let s = shelf::get_shelf(shelves, at);
+    if spare::splits_shelf(asked, s) {
+        return shelf_edits::split_shelf(shelves, items, h, at, asked.depth);
+    }
+    h
+}
+
+// The shelf is in use, and where its first free item was the one granted, another row is the first free one.
+pub fn use_shelf(shelves: &mut [u16], at: ShelfIndex, item: ItemIndex, new: ItemIndex)
+    ensures { λ _. ⌜ now (shelves .exit) ≡ useShelf (now (shelves .entry)) at item new ⌝ }
+{
+    let s = shelf::get_shelf(shelves, at);
+    let first = s.first_unallocated;
+    shelf_edits::set_free(shelves, at, item_edits::first_after(first, item, new), 0);
+}
+
+// The left part of the item is granted; the rest takes its place in the free list.
+pub fn take_part(
+    shelves: &mut [u16],
+    items: &mut [u16],
+    h: Header,
+    at: ShelfIndex,
+    item: ItemIndex,
+    width: u16,
+) -> Header
+    ensures { λ r. ⌜ Are (takePart (state h (now (shelves .entry)) (now (items .entry))) at item width) r (now (shelves .exit)) (now (items .exit)) ⌝ }
+{
+    let added = item_edits::split_item(items, h, item, width);
+    let new = added.idx;
+    item_edits::relist(items, item, new);
+    item_edits::mark_live(items, item);
+    use_shelf(shelves, at, item, new);
+    added.header
+}
+
+// The whole item is granted.
+pub fn take_whole(
+    shelves: &mut [u16],
+    items: &mut [u16],
+    h: Header,
+    at: ShelfIndex,
+    item: ItemIndex,
+) -> Header
+    ensures { λ r. ⌜ Are (takeWhole (state h (now (shelves .entry)) (now (items .entry))) at item) r (now (shelves .exit)) (now (items .exit)) ⌝ }
+{
+    let i = item::get_item(items, item);
+    let next = i.next_unallocated;
+    item_edits::unlist(items, item);
+    item_edits::mark_live(items, item);
+    use_shelf(shelves, at, item, next);
+    h
+}
+
+// An item that is wide enough is split.
+pub fn take_item(
+    shelves: &mut [u16],
+    items: &mut [u16],
+    h: Header,
+    at: ShelfIndex,
+    item: ItemIndex,
+    asked: Asked,
+) -> Header
+    ensures { λ r. ⌜ Are (takeItem (state h (now (shelves .entry)) (now (items .entry))) at item asked) r (now (shelves .exit)) (now (items .exit)) ⌝ }
+{
+    let i = item::get_item(items, item);
+    if spare::splits_item(asked, i) {
+        return take_part(shelves, items, h, at, item, asked.width);
+    }
+    take_whole(shelves, items, h, at, item)
+}
+
+// The item's area is occupied.
+pub fn occupy(shelves: &[u16], items: &[u16], h: Header, item: ItemIndex) -> Header
+    ensures { λ r. ⌜ r ≡ occupied (state h (now (shelves .entry)) (now (items .entry))) item ⌝ }
+{
+    let mut header = h;
+    header.occupied = wrap::add_u32(h.occupied, live::area_at(shelves, items, item));
+    header
+}
+
+// The grant at a place that the search holds, and what is told of it.
+pub fn grant_at(
+    shelves: &mut [u16],
+    items: &mut [u16],
+    h: Header,
+    p: Place,
+    asked: Asked,
+) -> Granted
+    ensures { λ r. ⌜ (r ≡ grantedAt (state h (now (shelves .entry)) (now (items .entry))) p asked)
+        × (now (shelves .exit) ≡ (grantAt (state h (now (shelves .entry)) (now (items .entry))) p asked) .shelves)
+        × (now (items .exit) ≡ (grantAt (state h (now (shelves .entry)) (now (items .entry))) p asked) .items) ⌝ }
+{
+    let on = p.shelf;
+    let at = p.item;
+    let fitted = fit_shelf(shelves, items, h, on, asked);
+    let taken = take_item(shelves, items, fitted, on, at, asked);
+    let header = occupy(shelves, items, taken, at);
+    let live = live::live_at(shelves, items, header, at.0);
+    Granted { live, header }
+}

@@ -1,0 +1,2 @@
+# etagere/src/allocator.rs: a row used again keeps its generation
+s/\.generation\.wrapping_add(1);/.generation;/
