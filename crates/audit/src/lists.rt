@@ -219,5 +219,8 @@ pub fn lists_agree(h: Header, shelves: &[u16], items: &[u16], t: Totals) -> bool
     if !f.right {
         return false;
     }
-    f.count == t.free
+    if f.count != t.free {
+        return false;
+    }
+    true
 }

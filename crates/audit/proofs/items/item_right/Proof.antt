@@ -52,8 +52,8 @@ returns-8 c =
     let two = apart-if _ _ (c .before .if8 .taken) in
     record {
       sound = λ e. record {
-        back = c .before .before .before .before .before .before .before .before .before .before .before .before .before .before .before .before .if1 .left;
-        named = c .before .before .before .before .before .before .before .before .before .before .before .before .before .before .if2 .left;
+        back = omega (arith, c .before .before .before .before .before .before .before .before .before .before .before .before .before .before .before .before .if1 .left);
+        named = omega (arith, c .before .before .before .before .before .before .before .before .before .before .before .before .before .before .if2 .left);
         at-x = omega arith;
         some-width = omega arith;
         aligned = rw s at (c .before .before .if7 .left);
