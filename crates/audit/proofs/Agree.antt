@@ -1,16 +1,13 @@
 -- Where rules 2 and 3 hold, the lists agree with the totals exactly when rules 5 to 7 hold. Assumes nothing.
 use mathlib.Core.Path.{_≡_, refl, sym, ap, _∙_}
 use mathlib.Core.Logic.{_≢_}
-use mathlib.Core.Bool.{Bool, true, false, _&&_}
 use mathlib.Core.List.{List}
 use Prim.Native.Nat.{ℕ, _+_, _≤_, _<_}
 use native.Mathlib.Decide.{ℕ-discrete}
 use native.Mathlib.Omega.{arith}
-use borrow.Author.Tests.{eq-eqb, ne-eqb, eqb-true}
-use lib.Dec.{eqb}
+use borrow.Author.Tests.{eq-eqb, ne-eqb}
 use lib.ListN.{length}
 use Rattle.numbers.specs.Index.{noRow}
-use Rattle.numbers.specs.Pick.{pick}
 use Rattle.rows.specs.Row.{get}
 use Rattle.rows.specs.Item.{items}
 use Rattle.rows.specs.Views.{Links, linksOf}
@@ -20,7 +17,7 @@ use Rattle.chains.specs.Lists.{_∈_, Each}
 use Rattle.rules.specs.Lies.{noLinks}
 use Rattle.rules.specs.Audit.{shelvesMet, allItemsMet, freedShelvesMet, freedItemsMet, Rule2, Rule3, Rule5, Rule6, Rule7, sumOver, areaMet}
 use Rattle.audit.specs.declared.items.Totals.{Totals}
-use Rattle.audit.specs.Counts.{shareOf, freeOf, strayOf, AllCounts, ListsAgree}
+use Rattle.audit.specs.Counts.{apart, strayIn, freeOf, strayOf, AllCounts, ListsAgree}
 use Rattle.audit.proofs.Members.{each-in, in-each, sum-none, none-sum}
 use Rattle.audit.proofs.Serving.{all-flagged}
 use Rattle.audit.proofs.FreedRows.{freed-shelves-right, right-freed-shelves, freed-items-right, right-freed-items, wide-serves}
@@ -28,31 +25,34 @@ use Rattle.audit.proofs.FreeLists.{lists-right, right-lists, right-tota
 
 -- ---- a live item's free links
 
-both-links : (x y : Bool) → _≡_ {A = ℕ} (pick (x && y) 0 1) 0 → (x ≡ true) × (y ≡ true)
-both-links true true e = (refl, refl)
-both-links true false e = absurd (omega arith)
-both-links false y e = absurd (omega arith)
+not-apart : (a b : ℕ) → apart a b ≡ 0 → a ≡ b
+unfolding apart
+not-apart a b e = omega arith
+
+same-apart : (a b : ℕ) → a ≡ b → apart a b ≡ 0
+unfolding apart
+same-apart a b e = omega arith
 
 links-none : (p n : ℕ) → p ≡ noRow → n ≡ noRow → record { prev = p; next = n } ≡ noLinks
 links-none p n e f = rw (e, f)
 
-unlinked : (i : ItemRow) → shareOf i .stray ≡ 0 → i .allocated ≡ 1 → linksOf i ≡ noLinks
-unfolding shareOf linksOf
+unlinked : (i : ItemRow) → strayIn i ≡ 0 → i .allocated ≡ 1 → linksOf i ≡ noLinks
+unfolding strayIn linksOf
 unlinked i e a =
     let live : i .allocated ≢ 0 = λ z. omega arith in
-    let two = both-links (eqb (i .«prev_unallocated» .0) noRow) (eqb (i .«next_unallocated» .0) noRow) (rw (ne-eqb _ _ live) at e) in
-    links-none (i .«prev_unallocated» .0) (i .«next_unallocated» .0) (eqb-true _ _ (two .0)) (eqb-true _ _ (two .1))
+    let none : apart (i .«prev_unallocated» .0) noRow + apart (i .«next_unallocated» .0) noRow ≡ 0 = rw (ne-eqb _ _ live) at e in
+    links-none (i .«prev_unallocated» .0) (i .«next_unallocated» .0) (not-apart _ _ (omega arith)) (not-apart _ _ (omega arith))
 
-no-stray : (i : ItemRow) → i .allocated ≤ 1 → (i .allocated ≡ 1 → linksOf i ≡ noLinks) → shareOf i .stray ≡ 0
-unfolding shareOf linksOf
+no-stray : (i : ItemRow) → i .allocated ≤ 1 → (i .allocated ≡ 1 → linksOf i ≡ noLinks) → strayIn i ≡ 0
+unfolding strayIn linksOf
 no-stray i b f = go (ℕ-discrete (i .allocated) 0) where
-  go : Dec (i .allocated ≡ 0) → shareOf i .stray ≡ 0
+  go : Dec (i .allocated ≡ 0) → strayIn i ≡ 0
   go (yes e) = rw (eq-eqb _ _ e)
   go (no n) =
       let e = f (omega (arith, n)) in
       let p : i .«prev_unallocated» .0 ≡ noRow = ap (λ (l : Links). l .prev) e in
       let q : i .«next_unallocated» .0 ≡ noRow = ap (λ (l : Links). l .next) e in
-      rw (ne-eqb _ _ n, eq-eqb _ _ p, eq-eqb _ _ q)
+      rw (ne-eqb _ _ n) (omega (arith, same-apart _ _ p, same-apart _ _ q))
 
 -- ---- the theorem
 

@@ -19,7 +19,7 @@ use Rattle.chains.specs.Walk.{Walk}
 use Rattle.chains.proofs.Lists.{distinct-within, distinct-cover}
 use Rattle.chains.proofs.Ends.{ends-distinct, ends-below}
 use Rattle.rules.specs.Audit.{freeNext, shelvesMet, itemsMet, freeMet, allItemsMet, FreeListRight, Rule2, Rule3, Rule5, sumOver}
-use Rattle.audit.specs.Counts.{shareOf, freeOf, FreeItem, FreeList, FreeListOf, allFreeMet}
+use Rattle.audit.specs.Counts.{freeIn, freeOf, FreeItem, FreeList, FreeListOf, allFreeMet}
 use Rattle.audit.proofs.Turns.{length-gather, sum-gather}
 use Rattle.audit.proofs.Members.{walk-each, walk-map, each-in, in-each, gather-in, in-gather, gather-distinct, sum-parts, sum-same}
 use Rattle.audit.proofs.Serving.{items-distinct, items-named, items-wide}
@@ -73,7 +73,7 @@ module _ (I : List ℕ) (rows : List ℕ) where
       (λ r m x k. only-in (eqb (get items I r .allocated) 0) r x k .1)
 
   frees-length : length (frees I rows) ≡ sumOver (freeOf I) rows
-  unfolding frees own shareOf
+  unfolding frees own freeIn
   frees-length =
       length-gather (own I) rows
       ∙ sum-same (λ r. length (own I r)) (freeOf I) rows (λ r m. only-length (eqb (get items I r .allocated) 0) r)

@@ -1,9 +1,11 @@
--- One turn along the items of a shelf, with what is counted there. Assumes nothing.
+-- One turn along the items of a shelf, with what is counted there. The loop does not look whether steps are left: it counts them, and a count of
+-- more than the used rows is refused at its end (`Going`). Assumes nothing.
 use mathlib.Core.Path.{_≡_, refl, sym, ap, _∙_}
 use mathlib.Core.Logic.{_≢_}
-use mathlib.Core.Bool.{Bool, true, false, _&&_}
+use mathlib.Core.Bool.{Bool, true, false, _&&_, false≢true}
 use mathlib.Core.List.{List}
-use Prim.Native.Nat.{ℕ, _+_, _-_, _≤_, _<_}
+use Prim.Native.Nat.{ℕ, _+_, _-_, _*_, _≤_, _<_}
+use native.Mathlib.Decide.{ℕ-discrete}
 use native.Mathlib.Omega.{arith}
 use borrow.Author.Tests.{eq-eqb, ne-eqb}
 use lib.Dec.{eqb}
@@ -16,9 +18,8 @@ use Rattle.rows.specs.declared.header.Header.{Header}
 use Rattle.rows.specs.declared.item.ItemRow.{ItemRow}
 use Rattle.rows.specs.declared.shelf.ShelfRow.{ShelfRow}
 use Rattle.rules.specs.Audit.{itemNext, Along, ItemRight, along, atLeft, sumOver}
-use Rattle.audit.specs.declared.items.Share.{Share}
-use Rattle.audit.specs.Counts.{shareOf, freeOf, liveOf, strayOf, rowsOf, RightOf}
-use Rattle.audit.proofs.Turns.{Deciding, begins, onward, wrong, Lasting, lasts, lasted, Summing, sums, summed}
+use Rattle.audit.specs.Counts.{apart, freeIn, liveIn, strayIn, freeOf, liveOf, strayOf, rowsOf, RightOf}
+use Rattle.audit.proofs.Turns.{Deciding, begins, onward, wrong, no-fuel, outside, Lasting, lasts, lasted, Summing, sums, summed}
 
 pub record AtItem (h : Header) (I : List ℕ) (on : ℕ) (s : ShelfRow) (cur fuel : ℕ) (d : Along) (free live stray : ℕ) : Type 0 where
   pub walk :
@@ -29,19 +30,19 @@ pub record AtItem (h : Header) (I : List ℕ) (on : ℕ) (s : ShelfRow) (cur fue
   pub lives : Summing (liveOf I) (itemNext I) (sumOver (liveOf I) (rowsOf h I s)) cur fuel live
   pub strays : Summing (strayOf I) (itemNext I) (sumOver (strayOf I) (rowsOf h I s)) cur fuel stray
 
-pub items-begin : (h : Header) (I : List ℕ) (on : ℕ) (s : ShelfRow) → h .«used_items» ≤ noRow
+items-begin : (h : Header) (I : List ℕ) (on : ℕ) (s : ShelfRow) → h .«used_items» ≤ noRow
     → AtItem h I on s (s .«first_item» .0) (h .«used_items») (atLeft s) 0 0 0
 unfolding RightOf rowsOf
 items-begin h I on s b = record { walk = begins b; count = lasts; frees = sums; lives = sums; strays = sums }
 
 module _ {h : Header} {I : List ℕ} {on : ℕ} {s : ShelfRow} {cur fuel : ℕ} {d : Along} {free live stray : ℕ} (w : AtItem h I on s cur fuel d free live stray)
     (ne : cur ≢ noRow) (i : ItemRow) (e : i ≡ get items I cur) where
-  pub wrong-item : (ItemRight h on d i → ⊥) → RightOf h I on s → ⊥
-  wrong-item n a = wrong (w .walk) ne (λ o. n (rw e o)) a
+  wrong-at : (ItemRight h on d i → ⊥) → RightOf h I on s → ⊥
+  wrong-at n a = wrong (w .walk) ne (λ o. n (rw e o)) a
 
-  shared : 1 ≤ fuel → cur < h .«used_items» → ItemRight h on d i
-      → AtItem h I on s (i .next .0) (fuel - 1) (along d cur i) (free + shareOf i .free) (live + shareOf i .live) (stray + shareOf i .stray)
-  shared f u o =
+  past-at : 1 ≤ fuel → cur < h .«used_items» → ItemRight h on d i
+      → AtItem h I on s (i .next .0) (fuel - 1) (along d cur i) (free + freeIn i) (live + liveIn i) (stray + strayIn i)
+  past-at f u o =
       rw e (record {
         walk = onward (w .walk) ne f u (rw e at o);
         count = lasted (w .count) ne f;
@@ -50,29 +51,119 @@ module _ {h : Header} {I : List ℕ} {on : ℕ} {s : ShelfRow} {cur fuel : ℕ} 
         strays = summed (w .strays) ne f;
       })
 
-  pub past-item : (m : Share) → m ≡ shareOf i → 1 ≤ fuel → cur < h .«used_items» → ItemRight h on d i
-      → AtItem h I on s (i .next .0) (fuel - 1) (record { prev = cur; x = d .x + i .width; after-free = eqb (i .allocated) 0 })
-      (free + m .free) (live + m .live) (stray + m .stray)
-  unfolding along
-  past-item m q f u o = rw q (shared f u o)
+-- ---- counting without looking
 
--- what one item adds is small
-pub record Small (i : ItemRow) (m : Share) : Type 0 where
-  pub free : m .free ≤ 1
-  pub live : m .live ≤ i .width
-  pub stray : m .stray ≤ 1
+pub record Going (h : Header) (I : List ℕ) (on : ℕ) (s : ShelfRow) (cur count : ℕ) (d : Along) (free live stray : ℕ) : Type 0 where
+  pub within : count ≤ h .«used_items» → AtItem h I on s cur (h .«used_items» - count) d free live stray
+  pub beyond : h .«used_items» < count → RightOf h I on s → ⊥
 
-pick-most : (b : Bool) (x y m : ℕ) → x ≤ m → y ≤ m → pick b x y ≤ m
-pick-most true x y m h k = h
-pick-most false x y m h k = k
+-- what holds if a count is within the used rows holds if it is refuted beyond them
+either : (A : Type 0) (count used : ℕ) → (count ≤ used → A) → (used < count → A) → A
+either A count used f g = go (ℕ-discrete (count - used) 0) where
+  go : Dec (count - used ≡ 0) → A
+  go (yes e) = f (omega arith)
+  go (no n) = g (omega (arith, n))
 
-pub share-small : (i : ItemRow) (m : Share) → m ≡ shareOf i → Small i m
-unfolding shareOf
-share-small i m e =
-    let live : Bool = eqb (i .allocated) 0 in
-    let none : Bool = eqb (i .«prev_unallocated» .0) noRow && eqb (i .«next_unallocated» .0) noRow in
-    rw e (record {
-      free = pick-most live 1 0 1 (omega arith) (omega arith);
-      live = pick-most live 0 (i .width) (i .width) (omega arith) (omega arith);
-      stray = pick-most live 0 (pick none 0 1) 1 (omega arith) (pick-most none 0 1 1 (omega arith) (omega arith));
-    })
+pub going-begins : (h : Header) (I : List ℕ) (on : ℕ) (s : ShelfRow) → h .«used_items» ≤ noRow
+    → Going h I on s (s .«first_item» .0) 0 (record { prev = noRow; x = s .x; after-free = eqb 0 (s .x + 1) }) 0 0 0
+going-begins h I on s b =
+    let all : h .«used_items» - 0 ≡ h .«used_items» = omega arith in
+    record { within = λ m. rw (all, ne-eqb 0 (s .x + 1) (λ e. omega arith)) (items-begin h I on s b); beyond = λ m. absurd (omega arith) }
+
+module _ {h : Header} {I : List ℕ} {on : ℕ} {s : ShelfRow} {cur count : ℕ} {d : Along} {free live stray : ℕ}
+    (w : Going h I on s cur count d free live stray) (ne : cur ≢ noRow) where
+  pub going-outside : h .«used_items» ≤ cur → RightOf h I on s → ⊥
+  going-outside o a = either ⊥ count (h .«used_items») (λ m. outside (w .within m .walk) ne o a) (λ m. w .beyond m a)
+
+  module _ (i : ItemRow) (e : i ≡ get items I cur) where
+    pub going-wrong : (ItemRight h on d i → ⊥) → RightOf h I on s → ⊥
+    going-wrong n a = either ⊥ count (h .«used_items») (λ m. wrong-at (w .within m) ne i e n a) (λ m. w .beyond m a)
+
+    pub going-past : cur < h .«used_items» → ItemRight h on d i
+        → Going h I on s (i .next .0) (count + 1) (along d cur i) (free + freeIn i) (live + liveIn i) (stray + strayIn i)
+    going-past u o = record {
+      within = λ m.
+          let one : (h .«used_items» - count) - 1 ≡ h .«used_items» - (count + 1) = omega arith in
+          rw (← one) (past-at (w .within (omega arith)) ne i e (omega arith) u o);
+      beyond = λ m a. either ⊥ count (h .«used_items») (λ k. no-fuel (w .within k .walk) ne (omega arith) a) (λ k. w .beyond k a);
+    }
+
+-- ---- one item, as the loop sees it
+
+-- right after a live item, an item is right wherever no free item ends before it
+pub unfree : {h : Header} {on prev x : ℕ} {after : Bool} {i : ItemRow} → ItemRight h on (record { prev = prev; x = x; after-free = after }) i
+    → ItemRight h on (record { prev = prev; x = x; after-free = false }) i
+unfree o = record {
+  back = o .back;
+  named = o .named;
+  at-x = o .at-x;
+  some-width = o .some-width;
+  aligned = o .aligned;
+  flag-right = o .flag-right;
+  apart = refl;
+}
+
+pub with-free : {h : Header} {on prev x : ℕ} (after : Bool) {i : ItemRow} → ItemRight h on (record { prev = prev; x = x; after-free = false }) i
+    → after && eqb (i .allocated) 0 ≡ false → ItemRight h on (record { prev = prev; x = x; after-free = after }) i
+with-free after o q = record {
+  back = o .back;
+  named = o .named;
+  at-x = o .at-x;
+  some-width = o .some-width;
+  aligned = o .aligned;
+  flag-right = o .flag-right;
+  apart = q;
+}
+
+and-false : (b : Bool) → b && false ≡ false
+and-false true = refl
+and-false false = refl
+
+both : {a b : Bool} → a ≡ true → b ≡ true → a && b ≡ true
+both e f = rw (e, f)
+
+-- how far a link is from none, and what that makes of the sum
+link-far : (a : ℕ) → a ≤ 65535 → apart a noRow ≡ 65535 - a
+unfolding apart
+link-far a h = omega arith
+
+links-short : (lives linked a b far : ℕ) → linked ≤ lives * 131070 → a ≤ 65535 → b ≤ 65535 → far ≡ (65535 - a) + (65535 - b)
+    → lives * 131070 - linked + far ≡ (lives + 1) * 131070 - (linked + (a + b))
+links-short lives linked a b far h k l e = omega arith
+
+going-as : {h : Header} {I : List ℕ} {on : ℕ} {s : ShelfRow} {cur p x : ℕ} (count count′ : ℕ) (b b′ : Bool) (free free′ live live′ stray stray′ : ℕ)
+    → Going h I on s cur count (record { prev = p; x = x; after-free = b }) free live stray → count ≡ count′ → b ≡ b′ → free ≡ free′ → live ≡ live′
+    → stray ≡ stray′ → Going h I on s cur count′ (record { prev = p; x = x; after-free = b′ }) free′ live′ stray′
+going-as count count′ b b′ free free′ live live′ stray stray′ w q r t u v = rw (← q, ← r, ← t, ← u, ← v) w
+
+module _ {h : Header} {I : List ℕ} {on : ℕ} {s : ShelfRow} {cur prev x free live : ℕ} (edge lives linked : ℕ)
+    (w : Going h I on s cur (lives + free) (record { prev = prev; x = x; after-free = eqb edge (x + 1) }) free live (lives * 131070 - linked))
+    (ne : cur ≢ noRow) (i : ItemRow) (e : i ≡ get items I cur) (u : cur < h .«used_items»)
+    (o : ItemRight h on (record { prev = prev; x = x; after-free = false }) i) where
+  pub past-free : i .allocated ≡ 0 → edge ≢ x + 1
+      → Going h I on s (i .next .0) (lives + (free + 1)) (record { prev = cur; x = x + i .width; after-free = eqb (x + i .width + 1) (x + i .width + 1) }) (free + 1)
+      live (lives * 131070 - linked)
+  unfolding along freeIn liveIn strayIn
+  past-free a n =
+      let is : eqb (i .allocated) 0 ≡ true = eq-eqb _ _ a in
+      let one : freeIn i ≡ 1 = rw is in
+      let none : liveIn i ≡ 0 = rw is in
+      let clean : strayIn i ≡ 0 = rw is in
+      going-as _ _ _ _ _ _ _ _ _ _ (going-past w ne i e u (with-free _ o (rw (ne-eqb edge (x + 1) n)))) (omega arith) (is ∙ sym (eq-eqb (x + i .width + 1) (x + i .width + 1) refl))
+      (omega (arith, one)) (omega (arith, none)) (omega (arith, clean))
+
+  pub two-free : i .allocated ≡ 0 → edge ≡ x + 1 → RightOf h I on s → ⊥
+  two-free a q = going-wrong w ne i e (λ r. false≢true (sym (r .apart) ∙ both (eq-eqb edge (x + 1) q) (eq-eqb _ _ a)))
+
+  pub past-live : i .allocated ≢ 0 → edge ≤ x + 1 → linked ≤ lives * 131070 → i .«prev_unallocated» .0 ≤ 65535 → i .«next_unallocated» .0 ≤ 65535
+      → Going h I on s (i .next .0) (lives + 1 + free) (record { prev = cur; x = x + i .width; after-free = eqb edge (x + i .width + 1) }) free
+      (live + i .width) ((lives + 1) * 131070 - (linked + (i .«prev_unallocated» .0 + i .«next_unallocated» .0)))
+  unfolding along freeIn liveIn strayIn
+  past-live a k l p q =
+      let is : eqb (i .allocated) 0 ≡ false = ne-eqb _ _ a in
+      let none : freeIn i ≡ 0 = rw is in
+      let wide : liveIn i ≡ i .width = rw is in
+      let far : strayIn i ≡ apart (i .«prev_unallocated» .0) noRow + apart (i .«next_unallocated» .0) noRow = rw is in
+      let short : strayIn i ≡ (65535 - i .«prev_unallocated» .0) + (65535 - i .«next_unallocated» .0) = far ∙ rw (link-far _ p, link-far _ q) in
+      going-as _ _ _ _ _ _ _ _ _ _ (going-past w ne i e u (with-free _ o (rw is (and-false (eqb edge (x + 1)))))) (omega arith)
+      (is ∙ sym (ne-eqb edge (x + i .width + 1) (λ z. omega (arith, o .some-width)))) (omega (arith, none)) (omega (arith, wide)) (links-short lives linked _ _ _ l p q short)

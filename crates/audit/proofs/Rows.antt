@@ -1,10 +1,10 @@
--- What one row says, for the tests that look at one: shares, freed rows, flags. Assumes nothing.
+-- What one row says, for the tests that look at one: freed rows, flags. Assumes nothing.
 use mathlib.Core.Path.{_≡_, refl, sym, ap, _∙_}
 use mathlib.Core.Logic.{_≢_}
 use mathlib.Core.Bool.{Bool, true, false, not, _&&_, false≢true}
 use mathlib.Core.List.{List}
-use Prim.Native.Nat.{ℕ, _*_, _%_, _≤_, _<_}
-use native.Mathlib.Nat.{mod-zero, mul-le-mul}
+use Prim.Native.Nat.{ℕ, _*_, _≤_, _<_}
+use native.Mathlib.Nat.{mul-le-mul}
 use native.Mathlib.Omega.{arith}
 use borrow.Author.Tests.{eq-eqb, ne-eqb, lt-ltb, le-ltb}
 use lib.Dec.{ltb, eqb}
@@ -24,8 +24,7 @@ use Rattle.numbers.specs.Axes.{along}
 use Rattle.numbers.specs.Limits.{alongStep}
 use Rattle.rules.specs.Audit.{oneFree, limitsOf}
 use Rattle.rules.specs.Lies.{flag}
-use Rattle.audit.specs.Counts.{shareOf, FreedShelf, FreedItem}
-use Rattle.audit.specs.declared.items.Share.{Share}
+use Rattle.audit.specs.Counts.{FreedShelf, FreedItem}
 
 pub never : {A : Type 0} → _≡_ {A = Bool} false true → A
 never e = absurd (false≢true e)
@@ -33,26 +32,6 @@ never e = absurd (false≢true e)
 -- a test that failed rightly
 pub refuted : {A : Type 0} → (A → ⊥) → Decides false A
 refuted no′ = record { sound = never; complete = λ a. absurd (no′ a) }
-
--- ---- an item's share
-
-pub share-free : (i : ItemRow) → i .allocated ≡ 0 → record { free = 1; live = 0; stray = 0 } ≡ shareOf i
-unfolding shareOf
-share-free i e = rw (eq-eqb _ _ e)
-
-pub share-back : (i : ItemRow) → i .allocated ≢ 0 → i .«prev_unallocated» .0 ≢ noRow → record { free = 0; live = i .width; stray = 1 } ≡ shareOf i
-unfolding shareOf
-share-back i a p = rw (ne-eqb _ _ a, ne-eqb _ _ p)
-
-pub share-forth : (i : ItemRow) → i .allocated ≢ 0 → i .«prev_unallocated» .0 ≡ noRow → i .«next_unallocated» .0 ≢ noRow
-    → record { free = 0; live = i .width; stray = 1 } ≡ shareOf i
-unfolding shareOf
-share-forth i a p n = rw (ne-eqb _ _ a, eq-eqb _ _ p, ne-eqb _ _ n)
-
-pub share-live : (i : ItemRow) → i .allocated ≢ 0 → i .«prev_unallocated» .0 ≡ noRow → i .«next_unallocated» .0 ≡ noRow
-    → record { free = 0; live = i .width; stray = 0 } ≡ shareOf i
-unfolding shareOf
-share-live i a p n = rw (ne-eqb _ _ a, eq-eqb _ _ p, eq-eqb _ _ n)
 
 -- ---- freed rows
 
@@ -135,10 +114,6 @@ apart-as false here e = refl
 pub step-is : (h : Header) → along (h .vertical) (h .«align_width») (h .«align_height») ≡ alongStep (limitsOf h)
 unfolding along alongStep limitsOf
 step-is h = refl
-
--- no width is a multiple of 0
-pub no-step : (w step : ℕ) → step ≡ 0 → 1 ≤ w → w % step ≡ 0 → ⊥
-no-step w step e h m = let z : w ≡ 0 = sym (mod-zero w) ∙ (rw e at m) in omega arith
 
 -- a product of two 16-bit numbers fits 32 bits
 pub product-fits : (a b : ℕ) → a ≤ 65535 → b ≤ 65535 → a * b ≤ 4294836225

@@ -23,7 +23,7 @@ use Rattle.rules.specs.Audit.{shelfNext, freeNext, shelvesMet, itemsMet, freeMe
 use Rattle.audit.specs.declared.items.Tally.{Tally}
 use Rattle.audit.specs.declared.items.Totals.{Totals}
 use Rattle.audit.specs.declared.lists.Counted.{Counted}
-use Rattle.audit.specs.Counts.{shareOf, freeOf, liveOf, strayOf, rowsOf, RightOf, ShelfCounts, ShelfTallied, AllCounts, AllTallied, FreeListCounted, FreeListsCounted, FreeList, FreeListOf, allFreeMet}
+use Rattle.audit.specs.Counts.{freeOf, liveOf, liveIn, strayOf, rowsOf, RightOf, ShelfCounts, ShelfTallied, AllCounts, AllTallied, FreeListCounted, FreeListsCounted, FreeList, FreeListOf, allFreeMet}
 use Rattle.audit.proofs.Rows.{denied, granted}
 use Rattle.audit.proofs.Turns.{met-step, met-end, met-out, Summing, sums, summed, sum-ended, sum-out, length-gather, sum-gather, length-sum, summed-as}
 
@@ -57,7 +57,7 @@ module _ {P : ℕ → Type 0} {nx : ℕ → ℕ} {A : Type 0} {cur fuel : ℕ} (
 
 live-area : (I : List ℕ) (k : ℕ) (rows : List ℕ)
     → sumOver (λ r. pick (eqb (get items I r .allocated) 0) 0 (get items I r .width * k)) rows ≡ sumOver (liveOf I) rows * k
-unfolding shareOf
+unfolding liveIn
 live-area I k [] = sym (zero-mul k)
 live-area I k (r ∷ rs) =
     let one : pick (eqb (get items I r .allocated) 0) 0 (get items I r .width * k) ≡ pick (eqb (get items I r .allocated) 0) 0 (get items I r .width) * k =
@@ -76,7 +76,7 @@ pub record AtTotals (h : Header) (S I : List ℕ) (cur fuel : ℕ) (t : Totals) 
   pub shelves-most : t .shelves + fuel ≤ h .«used_shelves»
   pub items-most : t .items + fuel * 65535 ≤ h .«used_shelves» * 65535
   pub free-most : t .free + fuel * 65535 ≤ h .«used_shelves» * 65535
-  pub stray-most : t .stray + fuel * 65535 ≤ h .«used_shelves» * 65535
+  pub stray-most : t .stray + fuel * 8589672450 ≤ h .«used_shelves» * 8589672450
   pub area-most : t .area + fuel * 8589672450 ≤ h .«used_shelves» * 8589672450
 
 pub totals-begin : (h : Header) (S I : List ℕ) → h .«used_shelves» ≤ noRow → AtTotals h S I 0 (h .«used_shelves») (record { right = true; shelves = 0; items = 0; free = 0; stray = 0; area = 0 })

@@ -1,8 +1,8 @@
 -- What the audit's walks decide and count: the items of a shelf, all the items, the free lists, the freed chains. From these counts follow rules
 -- 5 to 7 (proofs/Agree). `S` is the shelf table and `I` the item table throughout. Assumes nothing.
-use Prim.Native.Nat.{ℕ, _+_, _≤_}
+use Prim.Native.Nat.{ℕ, _+_, _-_, _≤_}
 use mathlib.Core.Path.{_≡_}
-use mathlib.Core.Bool.{true, _&&_}
+use mathlib.Core.Bool.{true}
 use mathlib.Core.List.{List}
 use lib.Dec.{eqb}
 use lib.ListN.{length}
@@ -18,29 +18,35 @@ use Rattle.rows.specs.declared.item.ItemRow.{ItemRow}
 use Rattle.chains.specs.Lists.{Decides, Each, gather}
 use Rattle.chains.specs.Walk.{rowsFrom, Walk}
 use Rattle.rules.specs.Audit.{shelfNext, itemNext, freeNext, shelvesMet, itemsMet, freeMet, allItemsMet, freedShelvesMet, freedItemsMet, ItemRight, along, atLeft, Rule3, sumOver, areaMet}
-use Rattle.audit.specs.declared.items.Share.{Share}
 use Rattle.audit.specs.declared.items.Tally.{Tally}
 use Rattle.audit.specs.declared.items.Totals.{Totals}
 use Rattle.audit.specs.declared.lists.Counted.{Counted}
 
 -- ---- the items of one shelf
 
--- what an item adds: 1 if it is free, its width if it is live, 1 if it is live and has a free link
-unfoldable pub shareOf : ItemRow → Share
-shareOf i = record {
-  free = pick (eqb (i .allocated) 0) 1 0;
-  live = pick (eqb (i .allocated) 0) 0 (i .width);
-  stray = pick (eqb (i .allocated) 0) 0 (pick (eqb (i .«prev_unallocated» .0) noRow && eqb (i .«next_unallocated» .0) noRow) 0 1);
-}
+-- what an item adds: 1 if it is free, its width if it is live
+unfoldable pub freeIn : ItemRow → ℕ
+freeIn i = pick (eqb (i .allocated) 0) 1 0
+
+unfoldable pub liveIn : ItemRow → ℕ
+liveIn i = pick (eqb (i .allocated) 0) 0 (i .width)
+
+-- how far two numbers are apart
+unfoldable pub apart : ℕ → ℕ → ℕ
+apart a b = (a - b) + (b - a)
+
+-- how far the free links of a live item are from none
+unfoldable pub strayIn : ItemRow → ℕ
+strayIn i = pick (eqb (i .allocated) 0) 0 (apart (i .«prev_unallocated» .0) noRow + apart (i .«next_unallocated» .0) noRow)
 
 abbrev pub freeOf : List ℕ → ℕ → ℕ
-freeOf I r = shareOf (get items I r) .free
+freeOf I r = freeIn (get items I r)
 
 abbrev pub liveOf : List ℕ → ℕ → ℕ
-liveOf I r = shareOf (get items I r) .live
+liveOf I r = liveIn (get items I r)
 
 abbrev pub strayOf : List ℕ → ℕ → ℕ
-strayOf I r = shareOf (get items I r) .stray
+strayOf I r = strayIn (get items I r)
 
 -- the rows that are met along the items of the shelf s, and rule 3 for it, where it stands in row `on`
 unfoldable pub rowsOf : Header → List ℕ → ShelfRow → List ℕ
@@ -63,7 +69,7 @@ pub record ShelfTallied (h : Header) (I : List ℕ) (on : ℕ) (s : ShelfRow) (t
   pub count-most : t .count ≤ 65535
   pub free-most : t .free ≤ 65535
   pub live-most : t .live ≤ 131070
-  pub stray-most : t .stray ≤ 65535
+  pub stray-most : t .stray ≤ 8589672450
 
 -- ---- all the items
 

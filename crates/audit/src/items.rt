@@ -1,8 +1,10 @@
 // Rule 3: the items of each shelf. What rules 5 to 7 ask of the items is counted in the same pass.
+ghost use mathlib.Core.Bool.{false};
 ghost use mathlib.Core.Path.{_≡_};
+ghost use Prim.Native.Nat.{_%_};
 ghost use Rattle.chains.specs.Lists.{Decides};
 ghost use Rattle.rules.specs.Audit.{ItemRight};
-ghost use Rattle.audit.specs.Counts.{shareOf, ShelfTallied, AllTallied};
+ghost use Rattle.audit.specs.Counts.{ShelfTallied, AllTallied};
 use numbers::axes;
 use numbers::index::ItemIndex;
 use numbers::index::ShelfIndex;
@@ -12,20 +14,14 @@ use rows::item::ItemRow;
 use rows::shelf;
 use rows::shelf::ShelfRow;
 
-// What one item adds to a shelf's tally: 1 if it is free, its width if it is live, and 1 if it is live and has a free link.
-pub struct Share {
-    pub free: u32,
-    pub live: u32,
-    pub stray: u32,
-}
-
-// Whether a shelf's items are right, and then how many they are, and their shares together.
+// Whether a shelf's items are right, and then how many they are, how many of them are free, how wide the live ones are together, and how far the
+// free links of the live ones are from none.
 pub struct Tally {
     pub right: bool,
     pub count: u32,
     pub free: u32,
     pub live: u32,
-    pub stray: u32,
+    pub stray: u64,
 }
 
 // The same of all the shelves, with the number of shelves, and the live area in place of the width.
@@ -34,13 +30,26 @@ pub struct Totals {
     pub shelves: u32,
     pub items: u32,
     pub free: u32,
-    pub stray: u32,
+    pub stray: u64,
     pub area: u64,
 }
 
-// Whether an item is right where the walk has come to.
-fn item_right(h: Header, on: u16, prev: u16, x: u32, after_free: bool, i: ItemRow) -> bool
-    ensures { λ r. ⌜ Decides r (ItemRight h on (record { prev = prev; x = x; after-free = «after_free» }) i) ⌝ }
+// Whether a width is a multiple of the alignment. Most atlases have an alignment of 1, and need no division.
+fn aligned(width: u32, step: u32) -> bool
+    ensures { λ r. ⌜ Decides r (width % step ≡ 0) ⌝ }
+{
+    if step == 1 {
+        return true;
+    }
+    if step == 0 {
+        return width == 0;
+    }
+    width % step == 0
+}
+
+// Whether an item is right where the walk has come to, if no free item ends there.
+fn item_right(h: Header, on: u16, prev: u16, x: u32, i: ItemRow) -> bool
+    ensures { λ r. ⌜ Decides r (ItemRight h on (record { prev = prev; x = x; after-free = false }) i) ⌝ }
 {
     if i.prev.0 != prev {
         return false;
@@ -58,48 +67,7 @@ fn item_right(h: Header, on: u16, prev: u16, x: u32, after_free: bool, i: ItemRo
         return false;
     }
     let step = axes::along(h.vertical, h.align_width as u32, h.align_height as u32);
-    if step == 0 {
-        return false;
-    }
-    if i.width as u32 % step != 0 {
-        return false;
-    }
-    if after_free {
-        return i.allocated != 0;
-    }
-    true
-}
-
-fn share_of(i: ItemRow) -> Share
-    ensures { λ r. ⌜ r ≡ shareOf i ⌝ }
-{
-    if i.allocated == 0 {
-        return Share {
-            free: 1,
-            live: 0,
-            stray: 0,
-        };
-    }
-    let live = i.width as u32;
-    if i.prev_unallocated.0 != 65535 {
-        return Share {
-            free: 0,
-            live,
-            stray: 1,
-        };
-    }
-    if i.next_unallocated.0 != 65535 {
-        return Share {
-            free: 0,
-            live,
-            stray: 1,
-        };
-    }
-    Share {
-        free: 0,
-        live,
-        stray: 0,
-    }
+    aligned(i.width as u32, step)
 }
 
 const WRONG: Tally = Tally {
@@ -110,46 +78,56 @@ const WRONG: Tally = Tally {
     stray: 0,
 };
 
-// The items of shelf `s`, which stands in row `on`.
+// The items of shelf `s`, which stands in row `on`. `edge` is 1 more than the place where the last free item ended. A row of no width is refused
+// before the rest of it is read, for a table that is too short gives one.
 pub fn items_of(h: Header, items: &[u16], on: u16, s: ShelfRow) -> Tally
     ensures { λ r. ⌜ ShelfTallied h (now (items .entry)) on s r ⌝ }
 {
     let mut prev: u16 = 65535;
     let mut x: u32 = s.x as u32;
-    let mut after_free = false;
+    let mut edge: u32 = 0;
     let mut free: u32 = 0;
+    let mut lives: u32 = 0;
     let mut live: u32 = 0;
-    let mut stray: u32 = 0;
+    let mut linked: u64 = 0;
     let mut cur: u16 = s.first_item.0;
-    let mut fuel: u16 = h.used_items;
-    while cur != 65535 {
-        if fuel == 0 {
-            return WRONG;
-        }
-        if cur >= h.used_items {
-            return WRONG;
-        }
+    while cur < h.used_items {
         let i = item::get_item(items, ItemIndex(cur));
-        if !item_right(h, on, prev, x, after_free, i) {
+        if i.width == 0 {
             return WRONG;
         }
-        let share = share_of(i);
-        free += share.free;
-        live += share.live;
-        stray += share.stray;
-        x += i.width as u32;
-        after_free = i.allocated == 0;
+        if !item_right(h, on, prev, x, i) {
+            return WRONG;
+        }
+        let end = x + i.width as u32;
+        if i.allocated == 0 {
+            if edge == x + 1 {
+                return WRONG;
+            }
+            free += 1;
+            edge = end + 1;
+        } else {
+            lives += 1;
+            live += i.width as u32;
+            linked += i.prev_unallocated.0 as u64 + i.next_unallocated.0 as u64;
+        }
+        x = end;
         prev = cur;
         cur = i.next.0;
-        fuel -= 1;
+    }
+    if cur != 65535 {
+        return WRONG;
+    }
+    if (h.used_items as u32) < lives + free {
+        return WRONG;
     }
     let right = x == s.x as u32 + h.shelf_width as u32;
     Tally {
         right,
-        count: (h.used_items - fuel) as u32,
+        count: lives + free,
         free,
         live,
-        stray,
+        stray: lives as u64 * 131070 - linked,
     }
 }
 

@@ -88,7 +88,7 @@ const WRONG: Counted = Counted {
     count: 0,
 };
 
-// The free list of the shelf in row `on`, from row `first` on.
+// The free list of the shelf in row `on`, from row `first` on. A row of no width is refused before the rest of it is read, as in `items_of`.
 pub fn free_list(h: Header, items: &[u16], on: u16, first: ItemIndex) -> Counted
     ensures { λ r. ⌜ FreeListCounted h (now (items .entry)) on (first .0) r ⌝ }
 {
@@ -103,6 +103,9 @@ pub fn free_list(h: Header, items: &[u16], on: u16, first: ItemIndex) -> Counted
             return WRONG;
         }
         let i = item::get_item(items, ItemIndex(cur));
+        if i.width == 0 {
+            return WRONG;
+        }
         if !free_item(on, prev, i) {
             return WRONG;
         }
@@ -219,5 +222,8 @@ pub fn lists_agree(h: Header, shelves: &[u16], items: &[u16], t: Totals) -> bool
     if !f.right {
         return false;
     }
-    f.count == t.free
+    if f.count != t.free {
+        return false;
+    }
+    true
 }

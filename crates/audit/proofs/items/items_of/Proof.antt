@@ -3,79 +3,121 @@ use Prim.Native.Nat.{_+_, _*_, _-_, _≤_}
 use mathlib.Core.Path.{_≡_, refl, sym, _∙_}
 use native.Mathlib.Omega.{arith}
 use borrow.Author.Tests.{eqb-true, eq-eqb}
+use lib.Dec.{eqb}
 use Rattle.audit.proofs.Rows.{never, refuted, denied, granted}
-use Rattle.audit.proofs.Turns.{no-fuel, outside, ended, unended, last-ended, sum-ended}
-use Rattle.audit.proofs.ItemTurns.{AtItem, items-begin, wrong-item, past-item, share-small}
+use Rattle.audit.proofs.Turns.{ended, unended, last-ended, sum-ended}
+use Rattle.audit.proofs.ItemTurns.{Going, going-begins, going-wrong, going-outside, unfree, past-free, two-free, past-live}
 use Rattle.audit.proofs.items.items_of.Statement.{statement}
 use Rattle.audit.proofs.items.items_of.Tie as tie
 
 abbrev Inv-loop : tie.InvT-loop
-Inv-loop h items on s prev₀ x₀ after-free₀ free₀ live₀ stray₀ cur₀ fuel₀ prev x after-free free live stray cur fuel =
-    AtItem h items on s cur fuel (record { prev = prev; x = x; after-free = after-free }) free live stray
+Inv-loop h items on s prev₀ x₀ edge₀ free₀ lives₀ live₀ linked₀ cur₀ prev x edge free lives live linked cur =
+    Going h items on s cur (lives + free) (record { prev = prev; x = x; after-free = eqb edge (x + 1) }) free live (lives * 131070 - linked)
     × (x ≤ 131070)
     × (live ≤ x)
-    × (free + fuel ≤ h .«used_items»)
-    × (stray + fuel ≤ h .«used_items»)
+    × (lives + free ≤ x)
+    × (linked ≤ lives * 131070)
+    × (edge ≤ x + 1)
 
 abbrev μ-loop : tie.MeasureT-loop
-μ-loop h items on s prev₀ x₀ after-free₀ free₀ live₀ stray₀ cur₀ fuel₀ prev x after-free free live stray cur fuel = fuel
+μ-loop h items on s prev₀ x₀ edge₀ free₀ lives₀ live₀ linked₀ cur₀ prev x edge free lives live linked cur = 131070 - x
 
 cast-x : tie.Need-cast-x Inv-loop μ-loop
 cast-x c = omega arith
 
 loop-holds : tie.Need-loop-holds Inv-loop μ-loop
-loop-holds c = (items-begin _ _ _ _ (omega arith), omega arith, omega arith, omega arith, omega arith)
-
-returns : tie.Need-returns Inv-loop μ-loop
-returns c = record { exact = refuted (no-fuel (c .before .before .loop .inv .0 .walk) (c .before .loop-test .taken) (c .if1 .taken)); counts = never; count-most = omega arith; free-most = omega arith; live-most = omega arith; stray-most = omega arith }
-
-returns-2 : tie.Need-returns-2 Inv-loop μ-loop
-returns-2 c = record { exact = refuted (outside (c .before .before .before .before .loop .inv .0 .walk) (c .before .before .before .loop-test .taken) (c .if2 .taken)); counts = never; count-most = omega arith; free-most = omega arith; live-most = omega arith; stray-most = omega arith }
+loop-holds c = (going-begins _ _ _ _ (omega arith), omega arith, omega arith, omega arith, omega arith, omega arith)
 
 get-item-requires : tie.Need-get-item-requires Inv-loop μ-loop
 get-item-requires c κs = tt
 
+returns : tie.Need-returns Inv-loop μ-loop
+returns c = record { exact = refuted (going-wrong (c .before .before .before .before .before .loop .inv .0) (λ e. omega (arith, c .before .before .before .if1 .taken, c .before .before .before .before .struct-known2 .given)) _ (c .before .before .get-item .ensures) (λ o. omega (arith, o .some-width, c .if2 .taken))); counts = never; count-most = omega arith; free-most = omega arith; live-most = omega arith; stray-most = omega arith }
+
 item-right-requires : tie.Need-item-right-requires Inv-loop μ-loop
 item-right-requires c κs = tt
 
-returns-3 : tie.Need-returns-3 Inv-loop μ-loop
-returns-3 c =
-    record { exact = refuted (wrong-item (c .before .before .before .before .before .before .before .loop .inv .0) (c .before .before .before .before .before .before .loop-test .taken) _ (c .before .before .get-item .ensures) (denied (c .before .item-right .ensures) (c .if3 .taken))); counts = never; count-most = omega arith; free-most = omega arith; live-most = omega arith; stray-most = omega arith }
+returns-2 : tie.Need-returns-2 Inv-loop μ-loop
+returns-2 c = record { exact = refuted (going-wrong (c .before .before .before .before .before .before .before .loop .inv .0) (λ e. omega (arith, c .before .before .before .before .before .if1 .taken, c .before .before .before .before .before .before .struct-known2 .given)) _ (c .before .before .before .before .get-item .ensures) (λ o. denied (c .before .item-right .ensures) (c .if3 .taken) (unfree o))); counts = never; count-most = omega arith; free-most = omega arith; live-most = omega arith; stray-most = omega arith }
 
-share-of-requires : tie.Need-share-of-requires Inv-loop μ-loop
-share-of-requires c κs = tt
+cast-end : tie.Need-cast-end Inv-loop μ-loop
+cast-end c = omega arith
+
+add-end : tie.Need-add-end Inv-loop μ-loop
+add-end c = omega arith
+
+add-if5 : tie.Need-add-if5 Inv-loop μ-loop
+add-if5 c = omega arith
+
+returns-3 : tie.Need-returns-3 Inv-loop μ-loop
+returns-3 c = record { exact = refuted (two-free (c .before .before .before .before .before .before .before .before .before .before .before .loop .edge) (c .before .before .before .before .before .before .before .before .before .before .before .loop .lives) (c .before .before .before .before .before .before .before .before .before .before .before .loop .linked) (c .before .before .before .before .before .before .before .before .before .before .before .loop .inv .0) (λ e. omega (arith, c .before .before .before .before .before .before .before .before .before .if1 .taken, c .before .before .before .before .before .before .before .before .before .before .struct-known2 .given)) _ (c .before .before .before .before .before .before .before .before .get-item .ensures) (c .before .before .before .before .before .before .before .before .before .if1 .taken) (granted (c .before .before .before .before .before .item-right .ensures) (c .before .before .before .before .if3 .left)) (c .before .if4 .taken) (c .if5 .taken)); counts = never; count-most = omega arith; free-most = omega arith; live-most = omega arith; stray-most = omega arith }
 
 add-free : tie.Need-add-free Inv-loop μ-loop
-add-free c = let m = share-small (c .before .before .before .before .get-item .result) (c .before .share-of .result) (c .before .share-of .ensures) in omega (arith, m .free, c .before .before .before .before .before .before .before .before .before .loop .inv .3, c .before .before .before .before .before .before .struct-known2 .given)
+add-free c = omega arith
+
+add-edge : tie.Need-add-edge Inv-loop μ-loop
+add-edge c = omega arith
+
+add-lives : tie.Need-add-lives Inv-loop μ-loop
+add-lives c = omega arith
+
+cast-live : tie.Need-cast-live Inv-loop μ-loop
+cast-live c = omega arith
 
 add-live : tie.Need-add-live Inv-loop μ-loop
-add-live c = let o = granted (c .before .before .before .before .item-right .ensures) (c .before .before .before .if3 .left) in let m = share-small (c .before .before .before .before .before .get-item .result) (c .before .before .share-of .result) (c .before .before .share-of .ensures) in omega (arith, c .before .before .before .before .before .get-item .ok)
+add-live c = omega arith
 
-add-stray : tie.Need-add-stray Inv-loop μ-loop
-add-stray c = let m = share-small (c .before .before .before .before .before .before .get-item .result) (c .before .before .before .share-of .result) (c .before .before .before .share-of .ensures) in omega (arith, m .stray, c .before .before .before .before .before .before .before .before .before .before .before .loop .inv .4, c .before .before .before .before .before .before .before .before .struct-known2 .given)
+cast-linked : tie.Need-cast-linked Inv-loop μ-loop
+cast-linked c = omega arith
 
-cast-x-2 : tie.Need-cast-x-2 Inv-loop μ-loop
-cast-x-2 c = omega arith
+cast-linked-2 : tie.Need-cast-linked-2 Inv-loop μ-loop
+cast-linked-2 c = omega arith
 
-add-x : tie.Need-add-x Inv-loop μ-loop
-add-x c = let o = granted (c .before .before .before .before .before .before .item-right .ensures) (c .before .before .before .before .before .if3 .left) in omega (arith, c .before .before .before .before .before .before .before .get-item .ok)
+add-linked : tie.Need-add-linked Inv-loop μ-loop
+add-linked c = omega arith
 
-sub-fuel : tie.Need-sub-fuel Inv-loop μ-loop
-sub-fuel c = omega arith
+add-linked-2 : tie.Need-add-linked-2 Inv-loop μ-loop
+add-linked-2 c = omega (arith, c .before .before .before .before .before .before .before .before .before .before .before .before .before .loop .inv .4, c .before .before .before .before .before .before .before .before .before .before .before .before .before .loop .inv .3, c .before .before .before .before .before .before .before .before .before .before .before .before .before .loop .inv .1)
 
 loop-less : tie.Need-loop-less Inv-loop μ-loop
-loop-less c = omega arith
+loop-less c = let o = granted (c .before .before .before .before .before .item-right .ensures) (c .before .before .before .before .if3 .left) in omega (arith, o .at-x, o .some-width, c .before .before .before .before .before .before .before .before .get-item .ok)
 
 loop-again : tie.Need-loop-again Inv-loop μ-loop
 loop-again c =
-    let m = share-small (c .before .before .before .before .before .before .before .before .get-item .result) (c .before .before .before .before .before .share-of .result) (c .before .before .before .before .before .share-of .ensures) in
-    let o = granted (c .before .before .before .before .before .before .before .item-right .ensures) (c .before .before .before .before .before .before .if3 .left) in (
-      past-item (c .before .before .before .before .before .before .before .before .before .before .before .before .before .loop .inv .0) (c .before .before .before .before .before .before .before .before .before .before .before .before .loop-test .taken) _ (c .before .before .before .before .before .before .before .before .get-item .ensures) _ (c .before .before .before .before .before .share-of .ensures) (omega arith) (omega arith) o,
-      omega (arith, c .before .before .before .before .before .before .before .before .get-item .ok),
-      omega (arith, m .live, c .before .before .before .before .before .before .before .before .before .before .before .before .before .loop .inv .2),
-      omega (arith, m .free, c .before .before .before .before .before .before .before .before .before .before .before .before .before .loop .inv .3, c .before .before .before .before .before .before .before .before .before .before .before .if1 .left),
-      omega (arith, m .stray, c .before .before .before .before .before .before .before .before .before .before .before .before .before .loop .inv .4, c .before .before .before .before .before .before .before .before .before .before .before .if1 .left),
+    let o = granted (c .before .before .before .before .before .item-right .ensures) (c .before .before .before .before .if3 .left) in (
+      past-free (c .before .before .before .before .before .before .before .before .before .before .before .loop .edge) (c .before .before .before .before .before .before .before .before .before .before .before .loop .lives) (c .before .before .before .before .before .before .before .before .before .before .before .loop .linked) (c .before .before .before .before .before .before .before .before .before .before .before .loop .inv .0) (λ e. omega (arith, c .before .before .before .before .before .before .before .before .before .if1 .taken, c .before .before .before .before .before .before .before .before .before .before .struct-known2 .given)) _ (c .before .before .before .before .before .before .before .before .get-item .ensures) (c .before .before .before .before .before .before .before .before .before .if1 .taken) o (c .before .if4 .taken) (c .if5 .left),
+      omega (arith, o .at-x, c .before .before .before .before .before .before .before .before .get-item .ok),
+      omega (arith, c .before .before .before .before .before .before .before .before .before .before .before .loop .inv .2),
+      omega (arith, c .before .before .before .before .before .before .before .before .before .before .before .loop .inv .3, o .some-width),
+      c .before .before .before .before .before .before .before .before .before .before .before .loop .inv .4,
+      omega arith,
     )
+
+loop-less-2 : tie.Need-loop-less-2 Inv-loop μ-loop
+loop-less-2 c = let o = granted (c .before .before .before .before .before .before .before .item-right .ensures) (c .before .before .before .before .before .before .if3 .left) in omega (arith, o .at-x, o .some-width, c .before .before .before .before .before .before .before .before .before .before .get-item .ok)
+
+loop-again-2 : tie.Need-loop-again-2 Inv-loop μ-loop
+loop-again-2 c =
+    let o = granted (c .before .before .before .before .before .before .before .item-right .ensures) (c .before .before .before .before .before .before .if3 .left) in (
+      past-live (c .before .before .before .before .before .before .before .before .before .before .before .before .before .loop .edge) (c .before .before .before .before .before .before .before .before .before .before .before .before .before .loop .lives) (c .before .before .before .before .before .before .before .before .before .before .before .before .before .loop .linked) (c .before .before .before .before .before .before .before .before .before .before .before .before .before .loop .inv .0) (λ e. omega (arith, c .before .before .before .before .before .before .before .before .before .before .before .if1 .taken, c .before .before .before .before .before .before .before .before .before .before .before .before .struct-known2 .given)) _ (c .before .before .before .before .before .before .before .before .before .before .get-item .ensures) (c .before .before .before .before .before .before .before .before .before .before .before .if1 .taken) o (λ z. c .before .before .before .if4 .left z) (c .before .before .before .before .before .before .before .before .before .before .before .before .before .loop .inv .5) (c .before .before .before .before .before .before .before .before .before .before .before .before .before .loop .inv .4) (omega (arith, c .before .before .before .before .before .before .before .before .before .before .get-item .ok)) (omega (arith, c .before .before .before .before .before .before .before .before .before .before .get-item .ok)),
+      omega (arith, o .at-x, c .before .before .before .before .before .before .before .before .before .before .get-item .ok),
+      omega (arith, c .before .before .before .before .before .before .before .before .before .before .before .before .before .loop .inv .2),
+      omega (arith, c .before .before .before .before .before .before .before .before .before .before .before .before .before .loop .inv .3, o .some-width),
+      omega (arith, c .before .before .before .before .before .before .before .before .before .before .before .before .before .loop .inv .4, c .before .before .before .before .before .before .before .before .before .before .get-item .ok),
+      omega (arith, c .before .before .before .before .before .before .before .before .before .before .before .before .before .loop .inv .5),
+    )
+
+returns-4 : tie.Need-returns-4 Inv-loop μ-loop
+returns-4 c = record { exact = refuted (going-outside (c .before .before .before .loop .inv .0) (c .if6 .taken) (omega (arith, c .before .if1 .left))); counts = never; count-most = omega arith; free-most = omega arith; live-most = omega arith; stray-most = omega arith }
+
+cast-if7 : tie.Need-cast-if7 Inv-loop μ-loop
+cast-if7 c = omega arith
+
+add-if7 : tie.Need-add-if7 Inv-loop μ-loop
+add-if7 c = omega (arith, c .before .before .before .before .loop .inv .3, c .before .before .before .before .loop .inv .1)
+
+returns-5 : tie.Need-returns-5 Inv-loop μ-loop
+returns-5 c = record { exact = refuted (c .before .before .before .before .before .loop .inv .0 .beyond (omega (arith, c .if7 .taken))); counts = never; count-most = omega arith; free-most = omega arith; live-most = omega arith; stray-most = omega arith }
 
 cast-right : tie.Need-cast-right Inv-loop μ-loop
 cast-right c = omega arith
@@ -86,24 +128,32 @@ cast-right-2 c = omega arith
 add-right : tie.Need-add-right Inv-loop μ-loop
 add-right c = omega arith
 
-sub-t23 : tie.Need-sub-t23 Inv-loop μ-loop
-sub-t23 c = omega arith
+add-t27 : tie.Need-add-t27 Inv-loop μ-loop
+add-t27 c = omega (arith, c .before .before .before .before .before .before .before .loop .inv .3, c .before .before .before .before .before .before .before .loop .inv .1)
 
-cast-t20 : tie.Need-cast-t20 Inv-loop μ-loop
-cast-t20 c = omega arith
+cast-t30 : tie.Need-cast-t30 Inv-loop μ-loop
+cast-t30 c = omega (arith, c .before .before .before .before .before .before .before .loop .inv .3, c .before .before .before .before .before .before .before .loop .inv .1)
 
-returns-4 : tie.Need-returns-4 Inv-loop μ-loop
-returns-4 c =
-    let l = c .before .before .before .before .loop in
-    let stop = c .before .before .before .loop-test .left in
-    let n = last-ended (l .inv .0 .count) stop in
+mul-t31 : tie.Need-mul-t31 Inv-loop μ-loop
+mul-t31 c = omega (arith, c .before .before .before .before .before .before .before .loop .inv .3, c .before .before .before .before .before .before .before .loop .inv .1)
+
+sub-t32 : tie.Need-sub-t32 Inv-loop μ-loop
+sub-t32 c = omega (arith, c .before .before .before .before .before .before .before .loop .inv .4)
+
+returns-6 : tie.Need-returns-6 Inv-loop μ-loop
+returns-6 c =
+    let l = c .before .before .before .before .before .before .before .loop in
+    let stop = c .before .before .before .before .if6 .left in
+    let few = c .before .before .if7 .left in
+    let at = l .inv .0 .within (omega (arith, few)) in
+    let n = last-ended (at .count) stop in
     record {
-      exact = record { sound = λ e. unended (l .inv .0 .walk) (omega arith) stop (eqb-true _ _ e); complete = λ a. eq-eqb _ _ (ended (l .inv .0 .walk) (omega arith) stop a) };
-      counts = λ e. record { count = omega arith; free = sum-ended (l .inv .0 .frees) stop; live = sum-ended (l .inv .0 .lives) stop; stray = sum-ended (l .inv .0 .strays) stop };
-      count-most = omega arith;
-      free-most = omega arith;
-      live-most = omega arith;
-      stray-most = omega arith;
+      exact = record { sound = λ e. unended (at .walk) (omega arith) stop (eqb-true _ _ e); complete = λ a. eq-eqb _ _ (ended (at .walk) (omega arith) stop a) };
+      counts = λ e. record { count = omega (arith, n, few); free = sum-ended (at .frees) stop; live = sum-ended (at .lives) stop; stray = sum-ended (at .strays) stop };
+      count-most = omega (arith, few);
+      free-most = omega (arith, few);
+      live-most = omega (arith, l .inv .1, l .inv .2);
+      stray-most = omega (arith, few);
     }
 
 pub items-of-spec : {M : Type 1} → statement M
@@ -114,23 +164,36 @@ items-of-spec =
     μ-loop
     cast-x
     loop-holds
-    returns
-    returns-2
     get-item-requires
+    returns
     item-right-requires
+    returns-2
+    cast-end
+    add-end
+    add-if5
     returns-3
-    share-of-requires
     add-free
+    add-edge
+    add-lives
+    cast-live
     add-live
-    add-stray
-    cast-x-2
-    add-x
-    sub-fuel
+    cast-linked
+    cast-linked-2
+    add-linked
+    add-linked-2
     loop-less
     loop-again
+    loop-less-2
+    loop-again-2
+    returns-4
+    cast-if7
+    add-if7
+    returns-5
     cast-right
     cast-right-2
     add-right
-    sub-t23
-    cast-t20
-    returns-4)
+    add-t27
+    cast-t30
+    mul-t31
+    sub-t32
+    returns-6)

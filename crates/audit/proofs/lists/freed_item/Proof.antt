@@ -11,27 +11,27 @@ use Rattle.audit.proofs.lists.freed_item.Tie as tie
 
 returns : tie.Need-returns
 unfolding freedItemRow withItemNext withGeneration
-returns c = refuted (λ o. c .if1 .taken (ap (λ (v : ItemRow). v .x) o))
+returns c = refuted (λ o. omega (arith, ap (λ (v : ItemRow). v .x) o, c .if1 .taken))
 
 returns-2 : tie.Need-returns-2
 unfolding freedItemRow withItemNext withGeneration
-returns-2 c = refuted (λ o. c .if2 .taken (ap (λ (v : ItemRow). v .width) o))
+returns-2 c = refuted (λ o. omega (arith, ap (λ (v : ItemRow). v .width) o, c .if2 .taken))
 
 returns-3 : tie.Need-returns-3
 unfolding freedItemRow withItemNext withGeneration
-returns-3 c = refuted (λ o. c .if3 .taken (ap (λ (v : ItemRow). v .prev .0) o))
+returns-3 c = refuted (λ o. omega (arith, ap (λ (v : ItemRow). v .prev .0) o, c .if3 .taken))
 
 returns-4 : tie.Need-returns-4
 unfolding freedItemRow withItemNext withGeneration
-returns-4 c = refuted (λ o. c .if4 .taken (ap (λ (v : ItemRow). v .«prev_unallocated» .0) o))
+returns-4 c = refuted (λ o. omega (arith, ap (λ (v : ItemRow). v .«prev_unallocated» .0) o, c .if4 .taken))
 
 returns-5 : tie.Need-returns-5
 unfolding freedItemRow withItemNext withGeneration
-returns-5 c = refuted (λ o. c .if5 .taken (ap (λ (v : ItemRow). v .«next_unallocated» .0) o))
+returns-5 c = refuted (λ o. omega (arith, ap (λ (v : ItemRow). v .«next_unallocated» .0) o, c .if5 .taken))
 
 returns-6 : tie.Need-returns-6
 unfolding freedItemRow withItemNext withGeneration
-returns-6 c = refuted (λ o. c .if6 .taken (ap (λ (v : ItemRow). v .shelf .0) o))
+returns-6 c = refuted (λ o. omega (arith, ap (λ (v : ItemRow). v .shelf .0) o, c .if6 .taken))
 
 returns-7 : tie.Need-returns-7
 unfolding freedItemRow withItemNext withGeneration

@@ -19,7 +19,7 @@ mul-if2 : tie.Need-mul-if2
 mul-if2 c = let a = c .before .before .before .before .before .args in omega (arith, product-fits (a .column) (a .h .«shelf_width») (omega arith) (omega arith))
 
 returns-2 : tie.Need-returns-2
-returns-2 c = refuted (λ o. c .if2 .taken (o .at-column))
+returns-2 c = refuted (λ o. omega (arith, o .at-column, c .if2 .taken))
 
 returns-3 : tie.Need-returns-3
 returns-3 c = refuted (λ o. omega arith)

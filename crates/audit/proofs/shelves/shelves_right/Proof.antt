@@ -25,7 +25,7 @@ returns : tie.Need-returns Inv-loop μ-loop
 returns c = refuted (no-fuel (c .before .before .loop .inv .0 .walk) (c .before .loop-test .taken) (c .if1 .taken))
 
 returns-2 : tie.Need-returns-2 Inv-loop μ-loop
-returns-2 c = refuted (outside (c .before .before .before .before .loop .inv .0 .walk) (c .before .before .before .loop-test .taken) (c .if2 .taken))
+returns-2 c = refuted (outside (c .before .before .before .before .loop .inv .0 .walk) (c .before .before .before .loop-test .taken) (omega (arith, c .if2 .taken)))
 
 get-shelf-requires : tie.Need-get-shelf-requires Inv-loop μ-loop
 get-shelf-requires c κs = tt

@@ -1,0 +1,36 @@
+#!/bin/sh
+# Instructions of one audit, and of one run of the Rust's own check on the same atlas. Two lengths of run are subtracted, so that making the
+# atlas does not count. Needs rt, rustc and valgrind; builds into target/bench.
+set -eu
+here=$(cd "$(dirname "$0")" && pwd)
+top=$(cd "$here/.." && pwd)
+for tool in rt rustc valgrind; do
+    command -v $tool >/dev/null || { echo "bench: $tool is not there" >&2; exit 2; }
+done
+cd "$top"
+[ -f target/staticlib/libplytimber.a ] || rt staticlib plytimber >&2
+oracle/build.sh
+out=target/bench
+mkdir -p $out
+build() { # NAME SOURCE ETAGERE, then more
+    name=$1 source=$2 etagere=$3
+    shift 3
+    rustc --edition 2021 --cap-lints allow -O -L target/oracle -L "target/oracle/$etagere" --extern etagere="target/oracle/$etagere/libetagere.rlib" "$@" -o "$out/$name" "$source"
+}
+build audit bench/audit.rs plain -L target/staticlib -l static=plytimber
+build plain bench/checks.rs plain
+build checks bench/checks.rs checks
+count() { # PROGRAM LIVE TIMES
+    valgrind --tool=callgrind --callgrind-out-file=/dev/null "$out/$1" "$2" "$3" 2>&1 >/dev/null | sed -n 's/.*Collected : \([0-9]*\).*/\1/p'
+}
+each() { # PROGRAM LIVE MORE: instructions of one turn
+    echo $((($(count "$1" "$2" $((1 + $3))) - $(count "$1" "$2" 1)) / $3))
+}
+for live in ${*:-30 300 3000 30000}; do
+    rows=$("$out/audit" "$live" 1)
+    audit=$(each audit "$live" 20)
+    echo "$live live: audit $audit instructions; $rows"
+done
+plain=$(each plain 300 40)
+checked=$(each checks 300 40)
+echo "300 live: the Rust's check $(((checked - plain) / 2)) instructions"

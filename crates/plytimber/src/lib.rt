@@ -1,0 +1,55 @@
+// What a host in C or Rust links: the calls as exported functions, over numbers, lent tables and one plain struct.
+ghost use mathlib.Core.Path.{_≡_};
+ghost use Rattle.plytimber.specs.Host.{headerOf, AuditSays};
+use audit::Verdict;
+use numbers::index::ItemIndex;
+use numbers::index::ShelfIndex;
+use rows::header::Header;
+
+// The header as a host holds it: eleven numbers in the order of document 01.
+#[repr(C)]
+pub struct AtlasHeader {
+    pub width: u16,
+    pub height: u16,
+    pub align_width: u16,
+    pub align_height: u16,
+    pub vertical: u16,
+    pub shelf_width: u16,
+    pub used_shelves: u16,
+    pub used_items: u16,
+    pub free_items: u16,
+    pub free_shelves: u16,
+    pub occupied: u32,
+}
+
+pub fn header_of(h: AtlasHeader) -> Header
+    ensures { λ r. ⌜ r ≡ headerOf h ⌝ }
+{
+    Header {
+        width: h.width,
+        height: h.height,
+        align_width: h.align_width,
+        align_height: h.align_height,
+        vertical: h.vertical,
+        shelf_width: h.shelf_width,
+        used_shelves: h.used_shelves,
+        used_items: h.used_items,
+        free_items: ItemIndex(h.free_items),
+        free_shelves: ShelfIndex(h.free_shelves),
+        occupied: h.occupied,
+    }
+}
+
+// 0 where all rules hold; else the first that fails, 5 for one of 5 to 7.
+#[no_mangle]
+pub extern "C" fn plytimber_audit(header: AtlasHeader, shelves: &[u16], items: &[u16]) -> u32
+    ensures { λ r. ⌜ AuditSays header (now (shelves .entry)) (now (items .entry)) r ⌝ }
+{
+    match audit::audit(header_of(header), shelves, items) {
+        Verdict::Passes => 0,
+        Verdict::Rule1 => 1,
+        Verdict::Rule2 => 2,
+        Verdict::Rule3 => 3,
+        Verdict::Rules5To7 => 5,
+    }
+}
