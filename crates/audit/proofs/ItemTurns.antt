@@ -65,10 +65,11 @@ either A count used f g = go (ℕ-discrete (count - used) 0) where
   go (no n) = g (omega (arith, n))
 
 pub going-begins : (h : Header) (I : List ℕ) (on : ℕ) (s : ShelfRow) → h .«used_items» ≤ noRow
-    → Going h I on s (s .«first_item» .0) 0 (record { prev = noRow; x = s .x; after-free = eqb 0 (s .x + 1) }) 0 0 0
+    → Going h I on s (s .«first_item» .0) 0 (record { prev = noRow; x = s .x; after-free = eqb 0 (s .x + 1) }) 0 (s .x - s .x - 0) 0
 going-begins h I on s b =
     let all : h .«used_items» - 0 ≡ h .«used_items» = omega arith in
-    record { within = λ m. rw (all, ne-eqb 0 (s .x + 1) (λ e. omega arith)) (items-begin h I on s b); beyond = λ m. absurd (omega arith) }
+    let none : s .x - s .x - 0 ≡ 0 = omega arith in
+    record { within = λ m. rw (none, all, ne-eqb 0 (s .x + 1) (λ e. omega arith)) (items-begin h I on s b); beyond = λ m. absurd (omega arith) }
 
 module _ {h : Header} {I : List ℕ} {on : ℕ} {s : ShelfRow} {cur count : ℕ} {d : Along} {free live stray : ℕ}
     (w : Going h I on s cur count d free live stray) (ne : cur ≢ noRow) where
@@ -131,39 +132,46 @@ links-short : (lives linked a b far : ℕ) → linked ≤ lives * 131070 → a �
     → lives * 131070 - linked + far ≡ (lives + 1) * 131070 - (linked + (a + b))
 links-short lives linked a b far h k l e = omega arith
 
+-- what the free items leave
+gap-wider : (x left gap w none : ℕ) → left + gap ≤ x → none ≡ 0 → x - left - gap + none ≡ x + w - left - (gap + w)
+gap-wider x left gap w none h e = omega arith
+
+gap-same : (x left gap w wide : ℕ) → left + gap ≤ x → wide ≡ w → x - left - gap + wide ≡ x + w - left - gap
+gap-same x left gap w wide h e = omega arith
+
 going-as : {h : Header} {I : List ℕ} {on : ℕ} {s : ShelfRow} {cur p x : ℕ} (count count′ : ℕ) (b b′ : Bool) (free free′ live live′ stray stray′ : ℕ)
     → Going h I on s cur count (record { prev = p; x = x; after-free = b }) free live stray → count ≡ count′ → b ≡ b′ → free ≡ free′ → live ≡ live′
     → stray ≡ stray′ → Going h I on s cur count′ (record { prev = p; x = x; after-free = b′ }) free′ live′ stray′
 going-as count count′ b b′ free free′ live live′ stray stray′ w q r t u v = rw (← q, ← r, ← t, ← u, ← v) w
 
-module _ {h : Header} {I : List ℕ} {on : ℕ} {s : ShelfRow} {cur prev x free live : ℕ} (edge lives linked : ℕ)
-    (w : Going h I on s cur (lives + free) (record { prev = prev; x = x; after-free = eqb edge (x + 1) }) free live (lives * 131070 - linked))
+module _ {h : Header} {I : List ℕ} {on : ℕ} {s : ShelfRow} {cur prev x free : ℕ} (edge lives gap linked : ℕ)
+    (w : Going h I on s cur (lives + free) (record { prev = prev; x = x; after-free = eqb edge (x + 1) }) free (x - s .x - gap) (lives * 131070 - linked))
     (ne : cur ≢ noRow) (i : ItemRow) (e : i ≡ get items I cur) (u : cur < h .«used_items»)
     (o : ItemRight h on (record { prev = prev; x = x; after-free = false }) i) where
-  pub past-free : i .allocated ≡ 0 → edge ≢ x + 1
+  pub past-free : i .allocated ≡ 0 → s .x + gap ≤ x → edge ≢ x + 1
       → Going h I on s (i .next .0) (lives + (free + 1)) (record { prev = cur; x = x + i .width; after-free = eqb (x + i .width + 1) (x + i .width + 1) }) (free + 1)
-      live (lives * 131070 - linked)
+      (x + i .width - s .x - (gap + i .width)) (lives * 131070 - linked)
   unfolding along freeIn liveIn strayIn
-  past-free a n =
+  past-free a g n =
       let is : eqb (i .allocated) 0 ≡ true = eq-eqb _ _ a in
       let one : freeIn i ≡ 1 = rw is in
       let none : liveIn i ≡ 0 = rw is in
       let clean : strayIn i ≡ 0 = rw is in
       going-as _ _ _ _ _ _ _ _ _ _ (going-past w ne i e u (with-free _ o (rw (ne-eqb edge (x + 1) n)))) (omega arith) (is ∙ sym (eq-eqb (x + i .width + 1) (x + i .width + 1) refl))
-      (omega (arith, one)) (omega (arith, none)) (omega (arith, clean))
+      (omega (arith, one)) (gap-wider _ _ _ _ _ g none) (omega (arith, clean))
 
   pub two-free : i .allocated ≡ 0 → edge ≡ x + 1 → RightOf h I on s → ⊥
   two-free a q = going-wrong w ne i e (λ r. false≢true (sym (r .apart) ∙ both (eq-eqb edge (x + 1) q) (eq-eqb _ _ a)))
 
-  pub past-live : i .allocated ≢ 0 → edge ≤ x + 1 → linked ≤ lives * 131070 → i .«prev_unallocated» .0 ≤ 65535 → i .«next_unallocated» .0 ≤ 65535
+  pub past-live : i .allocated ≢ 0 → s .x + gap ≤ x → edge ≤ x + 1 → linked ≤ lives * 131070 → i .«prev_unallocated» .0 ≤ 65535 → i .«next_unallocated» .0 ≤ 65535
       → Going h I on s (i .next .0) (lives + 1 + free) (record { prev = cur; x = x + i .width; after-free = eqb edge (x + i .width + 1) }) free
-      (live + i .width) ((lives + 1) * 131070 - (linked + (i .«prev_unallocated» .0 + i .«next_unallocated» .0)))
+      (x + i .width - s .x - gap) ((lives + 1) * 131070 - (linked + (i .«prev_unallocated» .0 + i .«next_unallocated» .0)))
   unfolding along freeIn liveIn strayIn
-  past-live a k l p q =
+  past-live a g k l p q =
       let is : eqb (i .allocated) 0 ≡ false = ne-eqb _ _ a in
       let none : freeIn i ≡ 0 = rw is in
       let wide : liveIn i ≡ i .width = rw is in
       let far : strayIn i ≡ apart (i .«prev_unallocated» .0) noRow + apart (i .«next_unallocated» .0) noRow = rw is in
       let short : strayIn i ≡ (65535 - i .«prev_unallocated» .0) + (65535 - i .«next_unallocated» .0) = far ∙ rw (link-far _ p, link-far _ q) in
       going-as _ _ _ _ _ _ _ _ _ _ (going-past w ne i e u (with-free _ o (rw is (and-false (eqb edge (x + 1)))))) (omega arith)
-      (is ∙ sym (ne-eqb edge (x + i .width + 1) (λ z. omega (arith, o .some-width)))) (omega (arith, none)) (omega (arith, wide)) (links-short lives linked _ _ _ l p q short)
+      (is ∙ sym (ne-eqb edge (x + i .width + 1) (λ z. omega (arith, o .some-width)))) (omega (arith, none)) (gap-same _ _ _ _ _ g wide) (links-short lives linked _ _ _ l p q short)

@@ -78,7 +78,7 @@ const WRONG: Tally = Tally {
     stray: 0,
 };
 
-// The items of shelf `s`, which stands in row `on`. `edge` is 1 more than the place where the last free item ended. A row of no width is refused
+// The items of shelf `s`, which stands in row `on`. `edge` is 1 more than the place where the last free item ended, `gap` the width of the free items. A row of no width is refused
 // before the rest of it is read, for a table that is too short gives one.
 pub fn items_of(h: Header, items: &[u16], on: u16, s: ShelfRow) -> Tally
     ensures { λ r. ⌜ ShelfTallied h (now (items .entry)) on s r ⌝ }
@@ -88,7 +88,7 @@ pub fn items_of(h: Header, items: &[u16], on: u16, s: ShelfRow) -> Tally
     let mut edge: u32 = 0;
     let mut free: u32 = 0;
     let mut lives: u32 = 0;
-    let mut live: u32 = 0;
+    let mut gap: u32 = 0;
     let mut linked: u64 = 0;
     let mut cur: u16 = s.first_item.0;
     while cur < h.used_items {
@@ -105,10 +105,10 @@ pub fn items_of(h: Header, items: &[u16], on: u16, s: ShelfRow) -> Tally
                 return WRONG;
             }
             free += 1;
+            gap += i.width as u32;
             edge = end + 1;
         } else {
             lives += 1;
-            live += i.width as u32;
             linked += i.prev_unallocated.0 as u64 + i.next_unallocated.0 as u64;
         }
         x = end;
@@ -126,7 +126,7 @@ pub fn items_of(h: Header, items: &[u16], on: u16, s: ShelfRow) -> Tally
         right,
         count: lives + free,
         free,
-        live,
+        live: x - s.x as u32 - gap,
         stray: lives as u64 * 131070 - linked,
     }
 }

@@ -11,16 +11,16 @@ use Rattle.audit.proofs.items.items_of.Statement.{statement}
 use Rattle.audit.proofs.items.items_of.Tie as tie
 
 abbrev Inv-loop : tie.InvT-loop
-Inv-loop h items on s prev₀ x₀ edge₀ free₀ lives₀ live₀ linked₀ cur₀ prev x edge free lives live linked cur =
-    Going h items on s cur (lives + free) (record { prev = prev; x = x; after-free = eqb edge (x + 1) }) free live (lives * 131070 - linked)
+Inv-loop h items on s prev₀ x₀ edge₀ free₀ lives₀ gap₀ linked₀ cur₀ prev x edge free lives gap linked cur =
+    Going h items on s cur (lives + free) (record { prev = prev; x = x; after-free = eqb edge (x + 1) }) free (x - s .x - gap) (lives * 131070 - linked)
     × (x ≤ 131070)
-    × (live ≤ x)
+    × (s .x + gap ≤ x)
     × (lives + free ≤ x)
     × (linked ≤ lives * 131070)
     × (edge ≤ x + 1)
 
 abbrev μ-loop : tie.MeasureT-loop
-μ-loop h items on s prev₀ x₀ edge₀ free₀ lives₀ live₀ linked₀ cur₀ prev x edge free lives live linked cur = 131070 - x
+μ-loop h items on s prev₀ x₀ edge₀ free₀ lives₀ gap₀ linked₀ cur₀ prev x edge free lives gap linked cur = 131070 - x
 
 cast-x : tie.Need-cast-x Inv-loop μ-loop
 cast-x c = omega arith
@@ -50,22 +50,22 @@ add-if5 : tie.Need-add-if5 Inv-loop μ-loop
 add-if5 c = omega arith
 
 returns-3 : tie.Need-returns-3 Inv-loop μ-loop
-returns-3 c = record { exact = refuted (two-free (c .before .before .before .before .before .before .before .before .before .before .before .loop .edge) (c .before .before .before .before .before .before .before .before .before .before .before .loop .lives) (c .before .before .before .before .before .before .before .before .before .before .before .loop .linked) (c .before .before .before .before .before .before .before .before .before .before .before .loop .inv .0) (λ e. omega (arith, c .before .before .before .before .before .before .before .before .before .if1 .taken, c .before .before .before .before .before .before .before .before .before .before .struct-known2 .given)) _ (c .before .before .before .before .before .before .before .before .get-item .ensures) (c .before .before .before .before .before .before .before .before .before .if1 .taken) (granted (c .before .before .before .before .before .item-right .ensures) (c .before .before .before .before .if3 .left)) (c .before .if4 .taken) (c .if5 .taken)); counts = never; count-most = omega arith; free-most = omega arith; live-most = omega arith; stray-most = omega arith }
+returns-3 c = record { exact = refuted (two-free (c .before .before .before .before .before .before .before .before .before .before .before .loop .edge) (c .before .before .before .before .before .before .before .before .before .before .before .loop .lives) (c .before .before .before .before .before .before .before .before .before .before .before .loop .gap) (c .before .before .before .before .before .before .before .before .before .before .before .loop .linked) (c .before .before .before .before .before .before .before .before .before .before .before .loop .inv .0) (λ e. omega (arith, c .before .before .before .before .before .before .before .before .before .if1 .taken, c .before .before .before .before .before .before .before .before .before .before .struct-known2 .given)) _ (c .before .before .before .before .before .before .before .before .get-item .ensures) (c .before .before .before .before .before .before .before .before .before .if1 .taken) (granted (c .before .before .before .before .before .item-right .ensures) (c .before .before .before .before .if3 .left)) (c .before .if4 .taken) (c .if5 .taken)); counts = never; count-most = omega arith; free-most = omega arith; live-most = omega arith; stray-most = omega arith }
 
 add-free : tie.Need-add-free Inv-loop μ-loop
 add-free c = omega arith
 
+cast-gap : tie.Need-cast-gap Inv-loop μ-loop
+cast-gap c = omega arith
+
+add-gap : tie.Need-add-gap Inv-loop μ-loop
+add-gap c = omega (arith, c .before .before .before .before .before .before .before .before .before .before .before .before .loop .inv .2, c .before .before .before .before .before .before .before .before .before .before .before .before .loop .inv .1)
+
 add-edge : tie.Need-add-edge Inv-loop μ-loop
-add-edge c = omega arith
+add-edge c = let o = granted (c .before .before .before .before .before .before .item-right .ensures) (c .before .before .before .before .before .if3 .left) in omega (arith, o .at-x, c .before .before .before .before .before .before .before .before .before .get-item .ok)
 
 add-lives : tie.Need-add-lives Inv-loop μ-loop
 add-lives c = omega arith
-
-cast-live : tie.Need-cast-live Inv-loop μ-loop
-cast-live c = omega arith
-
-add-live : tie.Need-add-live Inv-loop μ-loop
-add-live c = omega arith
 
 cast-linked : tie.Need-cast-linked Inv-loop μ-loop
 cast-linked c = omega arith
@@ -77,34 +77,34 @@ add-linked : tie.Need-add-linked Inv-loop μ-loop
 add-linked c = omega arith
 
 add-linked-2 : tie.Need-add-linked-2 Inv-loop μ-loop
-add-linked-2 c = omega (arith, c .before .before .before .before .before .before .before .before .before .before .before .before .before .loop .inv .4, c .before .before .before .before .before .before .before .before .before .before .before .before .before .loop .inv .3, c .before .before .before .before .before .before .before .before .before .before .before .before .before .loop .inv .1)
+add-linked-2 c = omega (arith, c .before .before .before .before .before .before .before .before .before .before .before .before .loop .inv .4, c .before .before .before .before .before .before .before .before .before .before .before .before .loop .inv .3, c .before .before .before .before .before .before .before .before .before .before .before .before .loop .inv .1)
 
 loop-less : tie.Need-loop-less Inv-loop μ-loop
-loop-less c = let o = granted (c .before .before .before .before .before .item-right .ensures) (c .before .before .before .before .if3 .left) in omega (arith, o .at-x, o .some-width, c .before .before .before .before .before .before .before .before .get-item .ok)
+loop-less c = let o = granted (c .before .before .before .before .before .before .item-right .ensures) (c .before .before .before .before .before .if3 .left) in omega (arith, o .at-x, o .some-width, c .before .before .before .before .before .before .before .before .before .get-item .ok)
 
 loop-again : tie.Need-loop-again Inv-loop μ-loop
 loop-again c =
-    let o = granted (c .before .before .before .before .before .item-right .ensures) (c .before .before .before .before .if3 .left) in (
-      past-free (c .before .before .before .before .before .before .before .before .before .before .before .loop .edge) (c .before .before .before .before .before .before .before .before .before .before .before .loop .lives) (c .before .before .before .before .before .before .before .before .before .before .before .loop .linked) (c .before .before .before .before .before .before .before .before .before .before .before .loop .inv .0) (λ e. omega (arith, c .before .before .before .before .before .before .before .before .before .if1 .taken, c .before .before .before .before .before .before .before .before .before .before .struct-known2 .given)) _ (c .before .before .before .before .before .before .before .before .get-item .ensures) (c .before .before .before .before .before .before .before .before .before .if1 .taken) o (c .before .if4 .taken) (c .if5 .left),
-      omega (arith, o .at-x, c .before .before .before .before .before .before .before .before .get-item .ok),
-      omega (arith, c .before .before .before .before .before .before .before .before .before .before .before .loop .inv .2),
-      omega (arith, c .before .before .before .before .before .before .before .before .before .before .before .loop .inv .3, o .some-width),
-      c .before .before .before .before .before .before .before .before .before .before .before .loop .inv .4,
+    let o = granted (c .before .before .before .before .before .before .item-right .ensures) (c .before .before .before .before .before .if3 .left) in (
+      past-free (c .before .before .before .before .before .before .before .before .before .before .before .before .loop .edge) (c .before .before .before .before .before .before .before .before .before .before .before .before .loop .lives) (c .before .before .before .before .before .before .before .before .before .before .before .before .loop .gap) (c .before .before .before .before .before .before .before .before .before .before .before .before .loop .linked) (c .before .before .before .before .before .before .before .before .before .before .before .before .loop .inv .0) (λ e. omega (arith, c .before .before .before .before .before .before .before .before .before .before .if1 .taken, c .before .before .before .before .before .before .before .before .before .before .before .struct-known2 .given)) _ (c .before .before .before .before .before .before .before .before .before .get-item .ensures) (c .before .before .before .before .before .before .before .before .before .before .if1 .taken) o (c .before .before .if4 .taken) (c .before .before .before .before .before .before .before .before .before .before .before .before .loop .inv .2) (c .before .if5 .left),
+      omega (arith, o .at-x, c .before .before .before .before .before .before .before .before .before .get-item .ok),
+      omega (arith, c .before .before .before .before .before .before .before .before .before .before .before .before .loop .inv .2),
+      omega (arith, c .before .before .before .before .before .before .before .before .before .before .before .before .loop .inv .3, o .some-width),
+      c .before .before .before .before .before .before .before .before .before .before .before .before .loop .inv .4,
       omega arith,
     )
 
 loop-less-2 : tie.Need-loop-less-2 Inv-loop μ-loop
-loop-less-2 c = let o = granted (c .before .before .before .before .before .before .before .item-right .ensures) (c .before .before .before .before .before .before .if3 .left) in omega (arith, o .at-x, o .some-width, c .before .before .before .before .before .before .before .before .before .before .get-item .ok)
+loop-less-2 c = let o = granted (c .before .before .before .before .before .before .item-right .ensures) (c .before .before .before .before .before .if3 .left) in omega (arith, o .at-x, o .some-width, c .before .before .before .before .before .before .before .before .before .get-item .ok)
 
 loop-again-2 : tie.Need-loop-again-2 Inv-loop μ-loop
 loop-again-2 c =
-    let o = granted (c .before .before .before .before .before .before .before .item-right .ensures) (c .before .before .before .before .before .before .if3 .left) in (
-      past-live (c .before .before .before .before .before .before .before .before .before .before .before .before .before .loop .edge) (c .before .before .before .before .before .before .before .before .before .before .before .before .before .loop .lives) (c .before .before .before .before .before .before .before .before .before .before .before .before .before .loop .linked) (c .before .before .before .before .before .before .before .before .before .before .before .before .before .loop .inv .0) (λ e. omega (arith, c .before .before .before .before .before .before .before .before .before .before .before .if1 .taken, c .before .before .before .before .before .before .before .before .before .before .before .before .struct-known2 .given)) _ (c .before .before .before .before .before .before .before .before .before .before .get-item .ensures) (c .before .before .before .before .before .before .before .before .before .before .before .if1 .taken) o (λ z. c .before .before .before .if4 .left z) (c .before .before .before .before .before .before .before .before .before .before .before .before .before .loop .inv .5) (c .before .before .before .before .before .before .before .before .before .before .before .before .before .loop .inv .4) (omega (arith, c .before .before .before .before .before .before .before .before .before .before .get-item .ok)) (omega (arith, c .before .before .before .before .before .before .before .before .before .before .get-item .ok)),
-      omega (arith, o .at-x, c .before .before .before .before .before .before .before .before .before .before .get-item .ok),
-      omega (arith, c .before .before .before .before .before .before .before .before .before .before .before .before .before .loop .inv .2),
-      omega (arith, c .before .before .before .before .before .before .before .before .before .before .before .before .before .loop .inv .3, o .some-width),
-      omega (arith, c .before .before .before .before .before .before .before .before .before .before .before .before .before .loop .inv .4, c .before .before .before .before .before .before .before .before .before .before .get-item .ok),
-      omega (arith, c .before .before .before .before .before .before .before .before .before .before .before .before .before .loop .inv .5),
+    let o = granted (c .before .before .before .before .before .before .item-right .ensures) (c .before .before .before .before .before .if3 .left) in (
+      past-live (c .before .before .before .before .before .before .before .before .before .before .before .before .loop .edge) (c .before .before .before .before .before .before .before .before .before .before .before .before .loop .lives) (c .before .before .before .before .before .before .before .before .before .before .before .before .loop .gap) (c .before .before .before .before .before .before .before .before .before .before .before .before .loop .linked) (c .before .before .before .before .before .before .before .before .before .before .before .before .loop .inv .0) (λ e. omega (arith, c .before .before .before .before .before .before .before .before .before .before .if1 .taken, c .before .before .before .before .before .before .before .before .before .before .before .struct-known2 .given)) _ (c .before .before .before .before .before .before .before .before .before .get-item .ensures) (c .before .before .before .before .before .before .before .before .before .before .if1 .taken) o (λ z. c .before .before .if4 .left z) (c .before .before .before .before .before .before .before .before .before .before .before .before .loop .inv .2) (c .before .before .before .before .before .before .before .before .before .before .before .before .loop .inv .5) (c .before .before .before .before .before .before .before .before .before .before .before .before .loop .inv .4) (omega (arith, c .before .before .before .before .before .before .before .before .before .get-item .ok)) (omega (arith, c .before .before .before .before .before .before .before .before .before .get-item .ok)),
+      omega (arith, o .at-x, c .before .before .before .before .before .before .before .before .before .get-item .ok),
+      omega (arith, c .before .before .before .before .before .before .before .before .before .before .before .before .loop .inv .2),
+      omega (arith, c .before .before .before .before .before .before .before .before .before .before .before .before .loop .inv .3, o .some-width),
+      omega (arith, c .before .before .before .before .before .before .before .before .before .before .before .before .loop .inv .4, c .before .before .before .before .before .before .before .before .before .get-item .ok),
+      omega (arith, c .before .before .before .before .before .before .before .before .before .before .before .before .loop .inv .5),
     )
 
 returns-4 : tie.Need-returns-4 Inv-loop μ-loop
@@ -128,23 +128,32 @@ cast-right-2 c = omega arith
 add-right : tie.Need-add-right Inv-loop μ-loop
 add-right c = omega arith
 
-add-t27 : tie.Need-add-t27 Inv-loop μ-loop
-add-t27 c = omega (arith, c .before .before .before .before .before .before .before .loop .inv .3, c .before .before .before .before .before .before .before .loop .inv .1)
+add-t26 : tie.Need-add-t26 Inv-loop μ-loop
+add-t26 c = omega (arith, c .before .before .before .before .before .before .before .loop .inv .3, c .before .before .before .before .before .before .before .loop .inv .1)
+
+cast-t28 : tie.Need-cast-t28 Inv-loop μ-loop
+cast-t28 c = omega arith
+
+sub-t27 : tie.Need-sub-t27 Inv-loop μ-loop
+sub-t27 c = omega (arith, c .before .before .before .before .before .before .before .before .loop .inv .2)
+
+sub-t29 : tie.Need-sub-t29 Inv-loop μ-loop
+sub-t29 c = omega (arith, c .before .before .before .before .before .before .before .before .loop .inv .2)
 
 cast-t30 : tie.Need-cast-t30 Inv-loop μ-loop
-cast-t30 c = omega (arith, c .before .before .before .before .before .before .before .loop .inv .3, c .before .before .before .before .before .before .before .loop .inv .1)
+cast-t30 c = omega (arith, c .before .before .before .before .before .before .before .before .loop .inv .3, c .before .before .before .before .before .before .before .before .loop .inv .1)
 
 mul-t31 : tie.Need-mul-t31 Inv-loop μ-loop
-mul-t31 c = omega (arith, c .before .before .before .before .before .before .before .loop .inv .3, c .before .before .before .before .before .before .before .loop .inv .1)
+mul-t31 c = omega (arith, c .before .before .before .before .before .before .before .before .loop .inv .3, c .before .before .before .before .before .before .before .before .loop .inv .1)
 
 sub-t32 : tie.Need-sub-t32 Inv-loop μ-loop
-sub-t32 c = omega (arith, c .before .before .before .before .before .before .before .loop .inv .4)
+sub-t32 c = omega (arith, c .before .before .before .before .before .before .before .before .loop .inv .4)
 
 returns-6 : tie.Need-returns-6 Inv-loop μ-loop
 returns-6 c =
-    let l = c .before .before .before .before .before .before .before .loop in
-    let stop = c .before .before .before .before .if6 .left in
-    let few = c .before .before .if7 .left in
+    let l = c .before .before .before .before .before .before .before .before .loop in
+    let stop = c .before .before .before .before .before .if6 .left in
+    let few = c .before .before .before .if7 .left in
     let at = l .inv .0 .within (omega (arith, few)) in
     let n = last-ended (at .count) stop in
     record {
@@ -152,7 +161,7 @@ returns-6 c =
       counts = λ e. record { count = omega (arith, n, few); free = sum-ended (at .frees) stop; live = sum-ended (at .lives) stop; stray = sum-ended (at .strays) stop };
       count-most = omega (arith, few);
       free-most = omega (arith, few);
-      live-most = omega (arith, l .inv .1, l .inv .2);
+      live-most = omega (arith, l .inv .1);
       stray-most = omega (arith, few);
     }
 
@@ -173,10 +182,10 @@ items-of-spec =
     add-if5
     returns-3
     add-free
+    cast-gap
+    add-gap
     add-edge
     add-lives
-    cast-live
-    add-live
     cast-linked
     cast-linked-2
     add-linked
@@ -192,7 +201,10 @@ items-of-spec =
     cast-right
     cast-right-2
     add-right
-    add-t27
+    add-t26
+    cast-t28
+    sub-t27
+    sub-t29
     cast-t30
     mul-t31
     sub-t32
