@@ -8,7 +8,7 @@ use Rattle.app.proofs.feed.Tie as tie
 
 abbrev Inv-loop : tie.InvT-loop
 Inv-loop have0 shelves₀ items₀ line₀ chunk out₀ header₀ have₀ filled₀ at₀ shelves items line out header have filled at =
-    (at ≤ length chunk) × (have ≤ 81) × (filled ≤ 57000) × (131072 ≡ length out)
+    (at ≤ length chunk) × (have ≤ 81) × (filled ≤ 57335) × (131072 ≡ length out)
 
 abbrev μ-loop : tie.MeasureT-loop
 μ-loop have0 shelves₀ items₀ line₀ chunk out₀ header₀ have₀ filled₀ at₀ shelves items line out header have filled at =
