@@ -22,10 +22,6 @@ pub pick-map : (b : Bool) (A A′ B B′ : Type 0) → (A → A′) → (B → B
 pick-map true A A′ B B′ f g x = f x
 pick-map false A A′ B B′ f g x = g x
 
-pub and-false : (b : Bool) → b && false ≡ false
-and-false true = refl
-and-false false = refl
-
 pub both-true : (b c : Bool) → b && c ≡ true → (b ≡ true) × (c ≡ true)
 both-true true c e = (refl, e)
 both-true false c e = let z : _≡_ {A = ℕ} 0 1 = cc in absurd (omega arith)

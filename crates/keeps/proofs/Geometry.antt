@@ -1,7 +1,7 @@
 -- The rules of shelves in columns and of items along a shelf, at one place of each. Assumes nothing.
 use Prim.Native.Nat.{ℕ, _<_, _≤_, _+_, _-_, _*_, _%_}
 use mathlib.Core.Path.{_≡_, ap, _∙_}
-use mathlib.Core.Bool.{Bool, true, false, _&&_}
+use mathlib.Core.Bool.{Bool, true, false, _&&_, and-false}
 use mathlib.Core.List.{List, [], _∷_}
 use native.Mathlib.Omega.{arith}
 use native.Mathlib.Nat.{dvd-sub, dvd-add, dvd-of-mod-eq-zero, mod-eq-zero-of-dvd}
@@ -19,7 +19,7 @@ use Rattle.rules.specs.Grant.{granted, rest-of, upperPart, lowerPart}
 use Rattle.rules.specs.Release.{freeWith, deeper, joins}
 use Rattle.rules.specs.Lies.{shelf}
 use Rattle.rules.specs.Keeps.{Stacked, Filled, NotBothFree, NotBothEmpty, AllListed, Shaped}
-use Rattle.keeps.proofs.Around.{pick-map, and-false, both-true, each-map, each-both}
+use Rattle.keeps.proofs.Around.{pick-map, both-true, each-map, each-both}
 
 -- ---- items along a shelf
 

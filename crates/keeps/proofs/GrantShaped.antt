@@ -2,7 +2,7 @@
 use Prim.Native.Nat.{ℕ, _<_, _≤_, _+_, _%_}
 use mathlib.Core.Path.{_≡_, refl, sym, ap, subst}
 use mathlib.Core.Logic.{_⊎_, inl, inr, ⊎-elim}
-use mathlib.Core.Bool.{Bool, true, false, not, _&&_}
+use mathlib.Core.Bool.{Bool, true, false, not, _&&_, and-false}
 use mathlib.Core.List.{List, [], _∷_, List·Memᴰ·head, List·Memᴰ·cases-cons, Memᴰ·append-right}
 use native.Mathlib.Omega.{arith}
 use lib.Dec.{ltb}
@@ -19,7 +19,7 @@ use Rattle.rules.specs.Grant.{newItemRow, splitsShelf, upperPart, lowerPart, sp
 use Rattle.rules.specs.Lies.{freeRows}
 use Rattle.rules.specs.Keeps.{Stacked, Filled, NotBothFree, NotBothEmpty, Shaped, Keeps}
 use Rattle.keeps.specs.Places.{Spot, Chosen}
-use Rattle.keeps.proofs.Around.{and-false, both-true, Behind, neighbours-split, neighbours-join, neighbours-after, behind-map, behind-any, ahead-map, ahead-any}
+use Rattle.keeps.proofs.Around.{both-true, Behind, neighbours-split, neighbours-join, neighbours-after, behind-map, behind-any, ahead-map, ahead-any}
 use Rattle.keeps.proofs.Geometry.{filled-onto, filled-part, stacked-split, joins-before, joins-after, joins-alike, joined-alike, Right, Laid, laid, shaped, laid-at}
 use Rattle.rules.proofs.LiveRows.{free-row}
 use Rattle.keeps.proofs.Listed.{rowOf, freeOf, stays-listed, new-listed}

@@ -2,7 +2,7 @@
 use Prim.Native.Nat.{ℕ, _<_, _≤_}
 use mathlib.Core.Path.{_≡_, refl, sym, ap, _∙_, subst}
 use mathlib.Core.Logic.{⊎-elim}
-use mathlib.Core.Bool.{Bool, true, false, _&&_, _||_}
+use mathlib.Core.Bool.{Bool, true, false, _&&_, _||_, and-false}
 use mathlib.Core.Option.{Option, none, some}
 use mathlib.Core.List.{List, [], _∷_, List·Memᴰ·head, List·Memᴰ·tail, List·Memᴰ·not-nil, List·Memᴰ·cases-cons, List·Memᴰ·append-cases, List·Memᴰ·eq-of-singleton}
 use native.Mathlib.Decide.{decLt}
@@ -20,7 +20,7 @@ use Rattle.rules.specs.Grant.{shelfTaken, itemTaken, upperPart, lowerPart, Outc
 use Rattle.rules.specs.Lies.{freeRows}
 use Rattle.rules.specs.Keeps.{itemRows, allItemRows, FreeListed, AllListed, Keeps}
 use Rattle.keeps.specs.Places.{NoPlace}
-use Rattle.keeps.proofs.Around.{known-no, pick-cases, and-false, each-map, each-both}
+use Rattle.keeps.proofs.Around.{known-no, pick-cases, each-map, each-both}
 use Rattle.rules.proofs.LiveRows.{free-row}
 use Rattle.keeps.proofs.Listed.{rowOf, freeOf}
 use Rattle.keeps.proofs.Granting.{place-so, grant-so}

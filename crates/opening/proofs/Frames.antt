@@ -52,19 +52,6 @@ occupied-onto (b ∷ bs) ys = omega (arith, occupied-onto bs (b ∷ ys))
 
 -- ---- an empty shelf
 
--- two items or more are no empty shelf
-pub two : (bs : List Item) (x y : Item) (ys : List Item) → isEmpty (back-onto bs (x ∷ y ∷ ys)) ≡ false
-unfolding isEmpty
-two [] x y ys = refl
-two (b ∷ bs) x y ys = two bs b x (y ∷ ys)
-
--- no shelf with a live item is empty
-pub not-empty : (bs : List Item) (x : Item) (ys : List Item) → x .live ≡ true → isEmpty (back-onto bs (x ∷ ys)) ≡ false
-unfolding isEmpty
-not-empty [] x [] e = rw e
-not-empty [] x (y ∷ ys) e = refl
-not-empty (b ∷ bs) x ys e = two bs b x ys
-
 -- ---- a free list
 
 -- a list around one of its elements

@@ -32,7 +32,8 @@ use Rattle.steps.specs.ShelfEdits.{withFree}
 use Rattle.steps.specs.Grant.{useShelf, takePartItems, takePart, takeWholeItems, takeWhole, occupied as occupiedAfter}
 use Rattle.opening.proofs.Views.{reads, seen-nextFree, seen-width, seen-shelf}
 use Rattle.rules.proofs.LiveRows.{live-free}
-use Rattle.opening.proofs.Frames.{area-onto, occupied-onto, not-empty, replace-at, first-listed}
+use Rattle.keeps.proofs.GrantShaped.{in-use as not-empty}
+use Rattle.opening.proofs.Frames.{area-onto, occupied-onto, replace-at, first-listed}
 use Rattle.opening.proofs.Standing.{Stands, onRow, used-items, shelf-says, widths, NarrowShelf, area-within}
 use Rattle.opening.proofs.Taking.{freedRow, withPool, item-new, item-header}
 use Rattle.opening.proofs.Open.{Open, once, links-are}

@@ -27,6 +27,7 @@ use Rattle.rules.specs.Lies.{item, flag, freeRows}
 use Rattle.steps.specs.Live.{atRow}
 use Rattle.steps.specs.ItemEdits.{markFree, unlist, enlist, joinNext, firstAfter}
 use Rattle.steps.specs.Release.{Loose as Loosened, isFreeItem, absorbNext, mergeNext as nextMerged, mergeInto as intoMerged}
+use Rattle.keeps.proofs.Around.{known-no as chosen-no}
 use Rattle.opening.proofs.Views.{seen-prev, seen-next, seen-allocated, seen-nextFree}
 use Rattle.opening.proofs.Frames.{focus-of, replace-at, first-listed}
 use Rattle.opening.proofs.Standing.{widths, widths-onto}
@@ -38,9 +39,6 @@ use Rattle.opening.proofs.Moves.{freed-open, push-open, next-open, into
 -- a choice that is known. (`rw e` with e : i .live ≡ b would take the record i apart.)
 pub chosen-yes : {X : Type 0} (P : X → Type 0) (b : Bool) (x y : X) → b ≡ true → P x → P (pick b x y)
 chosen-yes P b x y e p = rw e p
-
-pub chosen-no : {X : Type 0} (P : X → Type 0) (b : Bool) (x y : X) → b ≡ false → P y → P (pick b x y)
-chosen-no P b x y e p = rw e p
 
 -- the state of the steps is the state of the rules; all else of the header is as in h₀
 pub record Loosely (I₀ : List ℕ) (h₀ : Header) (on : ℕ) (others : List ℕ) (m : Loose) (c : Loosened) : Type 0 where

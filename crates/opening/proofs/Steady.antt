@@ -16,7 +16,8 @@ use Rattle.rules.specs.Lies.{item}
 use Rattle.opening.proofs.Frames.{area-onto, kept-in}
 use Rattle.opening.proofs.Standing.{widths, widths-onto}
 use Rattle.opening.proofs.Open.{listed}
-use Rattle.opening.proofs.Loosening.{loose, chosen-yes, chosen-no}
+use Rattle.keeps.proofs.Around.{known-no as chosen-no}
+use Rattle.opening.proofs.Loosening.{loose, chosen-yes}
 
 abbrev pub itemsOf : Loose → List Item
 itemsOf m = back-onto (m .items .before) (m .items .this ∷ m .items .after)
