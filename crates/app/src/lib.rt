@@ -3,10 +3,16 @@ use libc::STDIN_FILENO;
 use libc::STDOUT_FILENO;
 use rows::header;
 use rows::header::Header;
+use rows::item;
+use rows::shelf;
 ghost use mathlib.Core.Path.{_≡_};
 ghost use Prim.Native.Nat.{_≤_};
 ghost use lib.ListN.{length};
 
+// The two tables: 512 rows for shelves and 2048 for items.
+const SHELVES: usize = 512 * shelf::NUMBERS;
+
+const ITEMS: usize = 2048 * item::NUMBERS;
 // A line's bytes that are kept; one more is enough to say that it is too long.
 const LONGEST: usize = 80;
 // Answers are written once fewer than 73,737 bytes are left, which the longest takes: 2048 lines of a list, 36 bytes each, and "end 2048".
@@ -28,8 +34,8 @@ struct Turned {
 // Answers the line that has ended. One that is too long is 81 bytes to the step, whatever they are.
 fn answer(
     header: Header,
-    shelves: &mut [u16; 4096],
-    items: &mut [u16; 18432],
+    shelves: &mut [u16; SHELVES],
+    items: &mut [u16; ITEMS],
     line: &[u8],
     have: usize,
     out: &mut [u8],
@@ -51,8 +57,8 @@ fn answer(
 fn feed(
     header0: Header,
     have0: usize,
-    shelves: &mut [u16; 4096],
-    items: &mut [u16; 18432],
+    shelves: &mut [u16; SHELVES],
+    items: &mut [u16; ITEMS],
     line: &mut [u8; 81],
     chunk: &[u8],
 ) -> Turned
@@ -90,8 +96,8 @@ fn feed(
 fn turn(
     header: Header,
     have: usize,
-    shelves: &mut [u16; 4096],
-    items: &mut [u16; 18432],
+    shelves: &mut [u16; SHELVES],
+    items: &mut [u16; ITEMS],
     line: &mut [u8; 81],
 ) -> Turned
     requires { ⌜ have ≤ 81 ⌝ }
@@ -112,8 +118,8 @@ fn turn(
 
 // The whole program. A last line without a newline is a line if it has a byte.
 pub fn run() {
-    let mut shelves = [0u16; 4096];
-    let mut items = [0u16; 18432];
+    let mut shelves = [0u16; SHELVES];
+    let mut items = [0u16; ITEMS];
     let mut line = [0u8; 81];
     let mut header = header::no_header();
     let mut have: usize = 0;

@@ -21,7 +21,7 @@ use Rattle.rows.specs.Item.{items}
 use Rattle.rows.specs.Shelf.{shelves}
 use Rattle.rows.specs.Header.{zeroHeader}
 use Rattle.rows.specs.declared.header.Header.{Header}
-use Rattle.chains.specs.Lists.{Decides}
+use Rattle.numbers.specs.Decides.{Decides, refuted, denied, granted}
 use Rattle.rules.specs.Limits.{columns, WithinLimits}
 use Rattle.rules.specs.Atlas.{fresh}
 use Rattle.rules.specs.Atlas as rule
@@ -31,7 +31,6 @@ use Rattle.rules.specs.Calls.{refuses, makes, make, makeWithin, lookUp, freeSpa
 use Rattle.audit.specs.Verdicts.{Exact}
 use Rattle.audit.specs.declared.Verdict.{Verdict}
 use Rattle.audit.specs.declared.Verdict.the-variants as says
-use Rattle.audit.proofs.Rows.{refuted, denied, granted}
 use Rattle.audit.proofs.WithinLimits.{within-decides}
 use Rattle.steps.specs.Init.{freshHeader, freshShelfTable, freshItemTable}
 use Rattle.steps.specs.Live.{isLive, liveAt, isVacant}

@@ -1,7 +1,7 @@
 // The calls that change nothing: look-up, the totals, size and is_empty.
 ghost use mathlib.Core.Path.{_≡_};
 ghost use Prim.Native.Nat.{_*_, _-_};
-ghost use Rattle.chains.specs.Lists.{Decides};
+ghost use Rattle.numbers.specs.Decides.{Decides};
 ghost use Rattle.rules.specs.Audit.{Passes};
 ghost use Rattle.atlas.specs.Promises.{LooksUp, TellsOccupied, TellsFreeSpace, TellsSize, TellsEmpty};
 use crate::answers::Area;

@@ -19,7 +19,7 @@ use Rattle.rows.specs.Pool.{freedShelfRow, freedItemRow}
 use Rattle.rows.specs.declared.header.Header.{Header}
 use Rattle.rows.specs.declared.shelf.ShelfRow.{ShelfRow}
 use Rattle.rows.specs.declared.item.ItemRow.{ItemRow}
-use Rattle.chains.specs.Lists.{Decides}
+use Rattle.numbers.specs.Decides.{Decides}
 use Rattle.numbers.specs.Axes.{along}
 use Rattle.numbers.specs.Limits.{alongStep}
 use Rattle.rules.specs.Audit.{oneFree, limitsOf}

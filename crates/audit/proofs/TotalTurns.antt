@@ -24,7 +24,7 @@ use Rattle.audit.specs.declared.items.Tally.{Tally}
 use Rattle.audit.specs.declared.items.Totals.{Totals}
 use Rattle.audit.specs.declared.lists.Counted.{Counted}
 use Rattle.audit.specs.Counts.{freeOf, liveOf, liveIn, strayOf, rowsOf, RightOf, ShelfCounts, ShelfTallied, AllCounts, AllTallied, FreeListCounted, FreeListsCounted, FreeList, FreeListOf, allFreeMet}
-use Rattle.audit.proofs.Rows.{denied, granted}
+use Rattle.numbers.specs.Decides.{denied, granted}
 use Rattle.audit.proofs.Turns.{met-step, met-end, met-out, Summing, sums, summed, sum-ended, sum-out, length-gather, sum-gather, length-sum, summed-as}
 
 -- ---- a rule for each row by itself

@@ -12,7 +12,7 @@ use Rattle.numbers.specs.Axes.{along}
 use Rattle.numbers.specs.Sides.{oneTo}
 use Rattle.numbers.specs.declared.limits.Limits.{Limits}
 use Rattle.rows.specs.declared.header.Header.{Header}
-use Rattle.chains.specs.Lists.{Decides}
+use Rattle.numbers.specs.Decides.{Decides}
 use Rattle.rules.specs.Limits.{WithinLimits}
 use Rattle.rules.specs.Audit.{limitsOf}
 

@@ -15,7 +15,8 @@ use Rattle.rows.specs.Pool.{freedShelfRow, freedItemRow}
 use Rattle.rows.specs.declared.header.Header.{Header}
 use Rattle.rows.specs.declared.shelf.ShelfRow.{ShelfRow}
 use Rattle.rows.specs.declared.item.ItemRow.{ItemRow}
-use Rattle.chains.specs.Lists.{Decides, Each, gather}
+use Rattle.chains.specs.Lists.{Each, gather}
+use Rattle.numbers.specs.Decides.{Decides}
 use Rattle.chains.specs.Walk.{rowsFrom, Walk}
 use Rattle.rules.specs.Audit.{shelfNext, itemNext, freeNext, shelvesMet, itemsMet, freeMet, allItemsMet, freedShelvesMet, freedItemsMet, ItemRight, along, atLeft, Rule3, sumOver, areaMet}
 use Rattle.audit.specs.declared.items.Tally.{Tally}

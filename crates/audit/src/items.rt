@@ -2,7 +2,7 @@
 ghost use mathlib.Core.Bool.{false};
 ghost use mathlib.Core.Path.{_≡_};
 ghost use Prim.Native.Nat.{_%_};
-ghost use Rattle.chains.specs.Lists.{Decides};
+ghost use Rattle.numbers.specs.Decides.{Decides};
 ghost use Rattle.rules.specs.Audit.{ItemRight};
 ghost use Rattle.audit.specs.Counts.{ShelfTallied, AllTallied};
 use numbers::axes;

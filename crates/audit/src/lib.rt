@@ -1,5 +1,5 @@
 // The audit: whether any header and any two tables keep document 01's rules 1 to 7. It changes nothing, and needs no memory beside its locals.
-ghost use Rattle.chains.specs.Lists.{Decides};
+ghost use Rattle.numbers.specs.Decides.{Decides};
 ghost use Rattle.rules.specs.Audit.{Rule1, PassesForClear};
 ghost use Rattle.audit.specs.Verdicts.{Exact};
 

@@ -1,6 +1,6 @@
 // Rules 5 to 7: the free lists and the freed chains, against what was counted along the item chains.
 ghost use mathlib.Core.Path.{_≡_};
-ghost use Rattle.chains.specs.Lists.{Decides};
+ghost use Rattle.numbers.specs.Decides.{Decides};
 ghost use Rattle.audit.specs.Counts.{FreeItem, FreedShelf, FreedItem, FreeListCounted, FreeListsCounted, FreedShelvesCounted, FreedItemsCounted, ListsAgree};
 use crate::items::Totals;
 use numbers::index::ItemIndex;

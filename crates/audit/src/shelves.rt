@@ -1,5 +1,5 @@
 // Rule 2: the shelf chain.
-ghost use Rattle.chains.specs.Lists.{Decides};
+ghost use Rattle.numbers.specs.Decides.{Decides};
 ghost use Rattle.rules.specs.Audit.{ShelfRight, Rule2, oneFree};
 ghost use Rattle.rules.specs.Lies.{flag};
 ghost use mathlib.Core.Path.{_≡_};

@@ -12,11 +12,6 @@ abbrev pub _iff_ : Type 0 → Type 0 → Type 0
 A iff B = (A → B) × (B → A)
 
 infix 20 _iff_
--- the test says whether A holds
-pub record Decides (test : Bool) (A : Type 0) : Type 0 where
-  pub sound : test ≡ true → A
-  pub complete : A → test ≡ true
-
 -- no row stands twice
 abbrev pub Distinct : List ℕ → Type 0
 Distinct [] = Unit {0}

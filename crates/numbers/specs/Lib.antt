@@ -1,4 +1,5 @@
 pub mod Pick
+pub mod Decides
 pub mod Index
 pub mod Round
 pub mod Bands

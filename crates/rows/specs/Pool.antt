@@ -1,5 +1,6 @@
 -- Rows taken into use and given back. The freed rows of a table are a chain by `next`, the latest freed first; the header holds its head.
 -- Assumes nothing.
+use mathlib.Core.Path.{_≡_}
 use mathlib.Core.List.{List}
 use Prim.Native.Nat.{ℕ, _+_, _%_, _^_}
 use lib.Dec.{eqb}
@@ -58,6 +59,9 @@ addedItem l h = record { idx = newItem h; header = itemTaken l h }
 unfoldable pub freedItemRow : ItemIndex → ℕ → ItemRow
 freedItemRow next generation = withItemNext next (withGeneration generation zeroItem)
 
+abbrev pub FreedItem : ItemRow → Type 0
+FreedItem v = v ≡ freedItemRow (v .next) (v .generation)
+
 unfoldable pub removeItem : List ℕ → Header → ItemIndex → List ℕ
 removeItem l h idx = putItem l idx (freedItemRow (h .«free_items») (itemAt l idx .generation))
 
@@ -82,6 +86,9 @@ addedShelf l h = record { idx = newShelf h; header = shelfTaken l h }
 
 unfoldable pub freedShelfRow : ShelfIndex → ShelfRow
 freedShelfRow next = withShelfNext next zeroShelf
+
+abbrev pub FreedShelf : ShelfRow → Type 0
+FreedShelf v = v ≡ freedShelfRow (v .next)
 
 -- a shelf's item row is freed, the first one that it names, then its shelf row
 unfoldable pub removeShelf : List ℕ → Header → ShelfIndex → List ℕ

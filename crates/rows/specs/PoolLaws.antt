@@ -1,13 +1,15 @@
 -- What taking a row and giving one back come to: which row it is, what it holds, and that all else stays. Assumes nothing.
-use mathlib.Core.Path.{_≡_, refl}
+use mathlib.Core.Path.{_≡_, refl, sym, ap, _∙_}
 use mathlib.Core.Logic.{_≢_}
-use mathlib.Core.List.{List}
+use mathlib.Core.List.{List, [], _∷_, map}
 use Prim.Native.Nat.{ℕ, _+_, _<_}
 use native.Mathlib.Nat.{mod-eq-of-lt}
 use native.Mathlib.Decide.{ℕ-discrete}
 use native.Mathlib.Omega.{arith}
 use lib.ListN.{length}
-use borrow.Author.Tests.{eq-eqb, ne-eqb}
+use lib.Dec.{eqb}
+use borrow.Author.Tests.{eqb-true, eq-eqb, ne-eqb}
+use Rattle.numbers.specs.Decides.{Decides}
 use Rattle.numbers.specs.Index.{noRow}
 use Rattle.numbers.specs.declared.index.ItemIndex.{ItemIndex}
 use Rattle.numbers.specs.declared.index.ShelfIndex.{ShelfIndex}
@@ -16,9 +18,9 @@ use Rattle.rows.specs.declared.item.ItemRow.{ItemRow}
 use Rattle.rows.specs.declared.shelf.ShelfRow.{ShelfRow}
 use Rattle.rows.specs.Row.{Shape, rows, rest, get, put, rows-few, length-put, rows-put, rest-put, get-put-same, get-put-other, put-put}
 use Rattle.rows.specs.Header.{withUsedItems, withUsedShelves, withFreeItems, withFreeShelves}
-use Rattle.rows.specs.Item.{items, itemCapacity, itemAt, putItem, withItemNext, withGeneration}
-use Rattle.rows.specs.Shelf.{shelves, shelfCapacity, shelfAt, putShelf, withShelfNext}
-use Rattle.rows.specs.Pool.{oneMore, newRow, headAfter, usedAfter, newItem, newGeneration, addItem, itemTaken, addedItem, freedItemRow, removeItem, itemFreed, newShelf, addShelf, shelfTaken, addedShelf, freedShelfRow, removeShelf, removeShelfItem}
+use Rattle.rows.specs.Item.{items, itemOf, numbersOf as itemNumbers, itemCapacity, itemAt, putItem, withItemNext, withGeneration}
+use Rattle.rows.specs.Shelf.{shelves, shelfOf, numbersOf as shelfNumbers, shelfCapacity, shelfAt, putShelf, withShelfNext}
+use Rattle.rows.specs.Pool.{oneMore, newRow, headAfter, usedAfter, newItem, newGeneration, addItem, itemTaken, addedItem, freedItemRow, FreedItem, removeItem, itemFreed, newShelf, addShelf, shelfTaken, addedShelf, freedShelfRow, FreedShelf, removeShelf, removeShelfItem}
 
 pub one-more : (n : ℕ) → n < 65535 → oneMore n ≡ n + 1
 unfolding oneMore
@@ -142,3 +144,55 @@ unfolding addedShelf addShelf newShelf shelfTaken newRow headAfter usedAfter wit
 shelf-again l h idx b =
     let e = ne-eqb (idx .0) noRow (omega (arith, rows-few shelves l)) in
     (rw (e, get-put-same shelves l (idx .0) _ b), λ v. rw (e, put-put))
+
+-- ---- a freed row is one whose numbers are zero, but for next and generation: their sum is
+
+abbrev pub total : List ℕ → ℕ
+total [] = 0
+total (n ∷ r) = n + total r
+
+pub zero-total : (r : List ℕ) → total r ≡ 0 → r ≡ map (λ n. 0) r
+zero-total [] e = refl
+zero-total (n ∷ r) e = let z : n ≡ 0 = omega arith in rw (z, ← zero-total r (omega arith))
+
+-- the numbers that are zero in a freed row, and their sum as it is taken
+unfoldable pub itemRest : ItemRow → List ℕ
+itemRest v = itemNumbers (withItemNext (record { 0 = 0 }) (withGeneration 0 v))
+
+abbrev pub itemSum : ItemRow → ℕ
+itemSum v = v .x + v .width + v .shelf .0 + (v .prev .0 + v .«prev_unallocated» .0 + v .«next_unallocated» .0) + v .allocated
+
+unfoldable pub shelfRest : ShelfRow → List ℕ
+shelfRest v = shelfNumbers (withShelfNext (record { 0 = 0 }) v)
+
+abbrev pub shelfSum : ShelfRow → ℕ
+shelfSum v = v .x + v .y + v .height + (v .prev .0 + v .«first_item» .0 + v .«first_unallocated» .0) + v .«is_empty»
+
+tests-sum : {A : Type 0} (r : List ℕ) (n : ℕ) → n ≡ total r → (total r ≡ 0 → A) → (A → total r ≡ 0) → Decides (eqb n 0) A
+tests-sum r n e to from = record { sound = λ t. to (sym e ∙ eqb-true n 0 t); complete = λ a. eq-eqb n 0 (e ∙ from a) }
+
+module _ (v : ItemRow) where
+  pub freed-item : Decides (eqb (itemSum v) 0) (FreedItem v)
+  unfolding itemRest freedItemRow withItemNext withGeneration
+  freed-item =
+      tests-sum (itemRest v) (itemSum v) (omega arith)
+      (λ z. ap (λ (r : List ℕ). withItemNext (v .next) (withGeneration (v .generation) (itemOf r))) (zero-total (itemRest v) z))
+      (λ f. ap (λ (w : ItemRow). total (itemRest w)) f)
+
+  -- so a row with a width is none
+  pub freed-thin : FreedItem v → v .width ≡ 0
+  unfolding freedItemRow withItemNext withGeneration
+  freed-thin f = ap (λ (w : ItemRow). w .width) f
+
+module _ (v : ShelfRow) where
+  pub freed-shelf : Decides (eqb (shelfSum v) 0) (FreedShelf v)
+  unfolding shelfRest freedShelfRow withShelfNext
+  freed-shelf =
+      tests-sum (shelfRest v) (shelfSum v) (omega arith)
+      (λ z. ap (λ (r : List ℕ). withShelfNext (v .next) (shelfOf r)) (zero-total (shelfRest v) z))
+      (λ f. ap (λ (w : ShelfRow). total (shelfRest w)) f)
+
+  -- and so is a row with a depth
+  pub freed-flat : FreedShelf v → v .height ≡ 0
+  unfolding freedShelfRow withShelfNext
+  freed-flat f = ap (λ (w : ShelfRow). w .height) f

@@ -5,6 +5,9 @@ ghost use Rattle.rows.specs.Item.{zeroItem, numbersOf, itemOf, itemCapac
 use numbers::index::ItemIndex;
 use numbers::index::ShelfIndex;
 
+// The numbers of a row.
+pub const NUMBERS: usize = 9;
+
 // An item row, in the source's field order; `allocated` is 0 or 1.
 pub struct ItemRow {
     pub x: u16,
@@ -73,7 +76,7 @@ fn write_item(r: &mut [u16], v: ItemRow)
 pub fn item_capacity(items: &[u16]) -> u16
     ensures { λ r. ⌜ r ≡ itemCapacity (now (items .entry)) ⌝ }
 {
-    let n = items.len() / 9;
+    let n = items.len() / NUMBERS;
     if 65535 < n {
         return 65535;
     }
@@ -87,8 +90,8 @@ pub fn get_item(items: &[u16], at: ItemIndex) -> ItemRow
     if at.0 == ItemIndex::NONE.0 {
         return no_item();
     }
-    let b = at.0 as usize * 9;
-    let e = b + 9;
+    let b = at.0 as usize * NUMBERS;
+    let e = b + NUMBERS;
     if items.len() < e {
         return no_item();
     }
@@ -102,8 +105,8 @@ pub fn put_item(items: &mut [u16], at: ItemIndex, v: ItemRow)
     if at.0 == ItemIndex::NONE.0 {
         return;
     }
-    let b = at.0 as usize * 9;
-    let e = b + 9;
+    let b = at.0 as usize * NUMBERS;
+    let e = b + NUMBERS;
     if items.len() < e {
         return;
     }

@@ -1,6 +1,7 @@
 // Rows of the two tables taken into use and given back. The header goes in and out by value.
 ghost use mathlib.Core.Path.{_≡_};
-ghost use Rattle.rows.specs.Pool.{addItem, addedItem, removeItem, itemFreed, addShelf, addedShelf, removeShelf, removeShelfItem, shelfFreed};
+ghost use Rattle.rows.specs.Pool.{addItem, addedItem, removeItem, itemFreed, addShelf, addedShelf, removeShelf, removeShelfItem, shelfFreed, FreedItem, FreedShelf};
+ghost use Rattle.numbers.specs.Decides.{Decides};
 use crate::header::Header;
 use crate::item;
 use crate::item::ItemRow;
@@ -91,4 +92,22 @@ pub fn remove_shelf(shelves: &mut [u16], items: &mut [u16], h: Header, idx: Shel
     shelf::put_shelf(shelves, idx, v);
     header.free_shelves = idx;
     header
+}
+
+// Whether a row is as a freed one is left: zero but for next and generation. A sum is zero where each number is.
+pub fn is_freed_item(v: ItemRow) -> bool
+    ensures { λ r. ⌜ Decides r (FreedItem v) ⌝ }
+{
+    let place = v.x as u32 + v.width as u32 + v.shelf.0 as u32;
+    let links = v.prev.0 as u32 + v.prev_unallocated.0 as u32 + v.next_unallocated.0 as u32;
+    place + links + v.allocated as u32 == 0
+}
+
+// The same of a shelf, which has no generation.
+pub fn is_freed_shelf(v: ShelfRow) -> bool
+    ensures { λ r. ⌜ Decides r (FreedShelf v) ⌝ }
+{
+    let place = v.x as u32 + v.y as u32 + v.height as u32;
+    let links = v.prev.0 as u32 + v.first_item.0 as u32 + v.first_unallocated.0 as u32;
+    place + links + v.is_empty as u32 == 0
 }

@@ -5,6 +5,9 @@ ghost use Rattle.rows.specs.Shelf.{zeroShelf, numbersOf, shelfOf, shelfC
 use numbers::index::ItemIndex;
 use numbers::index::ShelfIndex;
 
+// The numbers of a row.
+pub const NUMBERS: usize = 8;
+
 // A shelf row, in the source's field order; `is_empty` is 0 or 1.
 pub struct ShelfRow {
     pub x: u16,
@@ -69,7 +72,7 @@ fn write_shelf(r: &mut [u16], v: ShelfRow)
 pub fn shelf_capacity(shelves: &[u16]) -> u16
     ensures { λ r. ⌜ r ≡ shelfCapacity (now (shelves .entry)) ⌝ }
 {
-    let n = shelves.len() / 8;
+    let n = shelves.len() / NUMBERS;
     if 65535 < n {
         return 65535;
     }
@@ -83,8 +86,8 @@ pub fn get_shelf(shelves: &[u16], at: ShelfIndex) -> ShelfRow
     if at.0 == ShelfIndex::NONE.0 {
         return no_shelf();
     }
-    let b = at.0 as usize * 8;
-    let e = b + 8;
+    let b = at.0 as usize * NUMBERS;
+    let e = b + NUMBERS;
     if shelves.len() < e {
         return no_shelf();
     }
@@ -98,8 +101,8 @@ pub fn put_shelf(shelves: &mut [u16], at: ShelfIndex, v: ShelfRow)
     if at.0 == ShelfIndex::NONE.0 {
         return;
     }
-    let b = at.0 as usize * 8;
-    let e = b + 8;
+    let b = at.0 as usize * NUMBERS;
+    let e = b + NUMBERS;
     if shelves.len() < e {
         return;
     }

@@ -1,12 +1,10 @@
 -- What is said after an audit: a refusal where it fails, the answer where it passes. Assumes nothing.
 use Prim.Native.Nat.{ℕ}
 use mathlib.Core.Path.{_≡_, refl, sym, ap, _∙_}
-use mathlib.Core.Bool.{Bool, true, false, false≢true}
 use mathlib.Core.List.{List, _++_}
 use lib.ListN.{length}
 use native.Mathlib.Omega.{arith}
 use Rattle.rows.specs.declared.header.Header.{Header}
-use Rattle.chains.specs.Lists.{Decides}
 use Rattle.rules.specs.Atlas.{occupied}
 use Rattle.rules.specs.Audit.{atlasIn, Passes}
 use Rattle.rules.specs.Calls.{freeSpace, list}
@@ -29,10 +27,6 @@ use Rattle.script.specs.declared.Stepped.{Stepped}
 pub told : {h : Header} {S I out : List ℕ} {at : ℕ} {text : List ℕ} {r : Stepped} {out′ : List ℕ} → Said h out at text r out′
     → Tells h S I (r .header) S I text text
 told s = record { same = record { header = s .header; shelves = refl; items = refl }; said = refl }
-
--- a test that decides, and failed
-pub denied : {b : Bool} {A : Type 0} → Decides b A → b ≡ false → ¬ A
-denied d e = λ a. false≢true (sym e ∙ d .complete a)
 
 -- the answer to s, by what was told of the free space
 pub space-told : (h : Header) (S I : List ℕ) (h′ : Header) (S′ I′ text : List ℕ) (total : ℕ) (r : Area) → TellsFreeSpace h S I r → r ≡ area.Of total

@@ -3,7 +3,7 @@ use mathlib.Core.Path.{_≡_, sym, _∙_}
 use native.Mathlib.Omega.{arith}
 use borrow.Author.Needs.{needs}
 use Rattle.rules.specs.Audit.{limitsOf}
-use Rattle.audit.proofs.Rows.{refuted}
+use Rattle.numbers.specs.Decides.{refuted}
 use Rattle.audit.proofs.WithinLimits.{within-decides}
 use Rattle.audit.proofs.header_right.Statement.{statement}
 use Rattle.audit.proofs.header_right.Tie as tie

@@ -3,7 +3,7 @@ use mathlib.Core.Path.{_≡_, sym, _∙_}
 use native.Mathlib.Omega.{arith}
 use borrow.Author.Needs.{needs}
 use borrow.Author.Tests.{leb-true, le-leb}
-use Rattle.audit.proofs.Rows.{refuted, denied, granted}
+use Rattle.numbers.specs.Decides.{refuted, denied, granted}
 use Rattle.audit.proofs.ShelfTurns.{columns-are}
 use Rattle.audit.proofs.passes_for_clear.Statement.{statement}
 use Rattle.audit.proofs.passes_for_clear.Tie as tie

@@ -1,7 +1,7 @@
 -- `all_items` decides rule 3 and gives the totals. Assumes nothing.
 use mathlib.Core.Path.{_≡_, refl, sym, _∙_}
 use native.Mathlib.Omega.{arith}
-use Rattle.audit.proofs.Rows.{never, refuted}
+use Rattle.numbers.specs.Decides.{never, refuted}
 use Rattle.audit.proofs.TotalTurns.{AtTotals, totals-begin, wrong-items, area-small, past-items, totals-ended, totals-out}
 use Rattle.audit.proofs.items.all_items.Statement.{statement}
 use Rattle.audit.proofs.items.all_items.Tie as tie

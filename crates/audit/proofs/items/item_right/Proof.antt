@@ -2,7 +2,8 @@
 use mathlib.Core.Path.{_≡_, refl, sym, _∙_}
 use native.Mathlib.Omega.{arith}
 use borrow.Author.Needs.{needs}
-use Rattle.audit.proofs.Rows.{refuted, step-is}
+use Rattle.audit.proofs.Rows.{step-is}
+use Rattle.numbers.specs.Decides.{refuted}
 use Rattle.audit.proofs.items.item_right.Statement.{statement}
 use Rattle.audit.proofs.items.item_right.Tie as tie
 

@@ -1,7 +1,7 @@
 -- `free_item`: each test is one part of what is asked. Assumes nothing.
 use native.Mathlib.Omega.{arith}
 use borrow.Author.Tests.{eqb-true, eq-eqb}
-use Rattle.audit.proofs.Rows.{refuted}
+use Rattle.numbers.specs.Decides.{refuted}
 use Rattle.audit.proofs.lists.free_item.Statement.{statement}
 use Rattle.audit.proofs.lists.free_item.Tie as tie
 

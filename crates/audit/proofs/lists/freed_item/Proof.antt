@@ -5,7 +5,8 @@ use borrow.Author.Tests.{eqb-true, eq-eqb}
 use Rattle.rows.specs.declared.item.ItemRow.{ItemRow}
 use Rattle.rows.specs.Pool.{freedItemRow}
 use Rattle.rows.specs.Item.{withItemNext, withGeneration}
-use Rattle.audit.proofs.Rows.{refuted, freed-item}
+use Rattle.audit.proofs.Rows.{freed-item}
+use Rattle.numbers.specs.Decides.{refuted}
 use Rattle.audit.proofs.lists.freed_item.Statement.{statement}
 use Rattle.audit.proofs.lists.freed_item.Tie as tie
 

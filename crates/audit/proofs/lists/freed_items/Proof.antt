@@ -2,7 +2,7 @@
 use Prim.Native.Nat.{_+_, _-_, _≤_}
 use mathlib.Core.Path.{_≡_, refl}
 use native.Mathlib.Omega.{arith}
-use Rattle.audit.proofs.Rows.{never, refuted, denied, granted}
+use Rattle.numbers.specs.Decides.{never, refuted, denied, granted}
 use Rattle.audit.proofs.Turns.{no-fuel, outside, ended, unended, last-ended}
 use Rattle.audit.proofs.ListTurns.{AtFreedItem, freed-items-begin, wrong-freed-item, past-freed-item}
 use Rattle.audit.proofs.lists.freed_items.Statement.{statement}

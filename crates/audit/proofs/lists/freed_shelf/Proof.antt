@@ -5,7 +5,8 @@ use borrow.Author.Tests.{eqb-true, eq-eqb}
 use Rattle.rows.specs.declared.shelf.ShelfRow.{ShelfRow}
 use Rattle.rows.specs.Pool.{freedShelfRow}
 use Rattle.rows.specs.Shelf.{withShelfNext}
-use Rattle.audit.proofs.Rows.{refuted, freed-shelf}
+use Rattle.audit.proofs.Rows.{freed-shelf}
+use Rattle.numbers.specs.Decides.{refuted}
 use Rattle.audit.proofs.lists.freed_shelf.Statement.{statement}
 use Rattle.audit.proofs.lists.freed_shelf.Tie as tie
 

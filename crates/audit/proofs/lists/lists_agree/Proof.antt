@@ -3,7 +3,7 @@ use mathlib.Core.Path.{refl}
 use native.Mathlib.Omega.{arith}
 use borrow.Author.Needs.{needs}
 use borrow.Author.Tests.{not-false}
-use Rattle.audit.proofs.Rows.{refuted, denied, granted}
+use Rattle.numbers.specs.Decides.{refuted, denied, granted}
 use Rattle.audit.proofs.lists.lists_agree.Statement.{statement}
 use Rattle.audit.proofs.lists.lists_agree.Tie as tie
 

@@ -2,7 +2,8 @@
 use mathlib.Core.Path.{_≡_, refl, sym, _∙_}
 use native.Mathlib.Omega.{arith}
 use borrow.Author.Needs.{needs}
-use Rattle.audit.proofs.Rows.{refuted, apart-if, apart-as, product-fits}
+use Rattle.audit.proofs.Rows.{apart-if, apart-as, product-fits}
+use Rattle.numbers.specs.Decides.{refuted}
 use Rattle.audit.proofs.shelves.shelf_right.Statement.{statement}
 use Rattle.audit.proofs.shelves.shelf_right.Tie as tie
 

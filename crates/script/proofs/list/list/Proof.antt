@@ -1,10 +1,10 @@
 use mathlib.Core.Path.{_≡_, refl, sym, ap, subst, _∙_}
 use borrow.Author.Needs.{needs}
-use borrow.Author.Tests.{not-true, not-false}
+use Rattle.numbers.specs.Decides.{denied, granted}
 use Rattle.atlas.specs.Promises.{fails, passes}
 use Rattle.lines.specs.Put.{put-then}
 use Rattle.script.specs.Step.{Does}
-use Rattle.script.proofs.Told.{told, denied, list-told}
+use Rattle.script.proofs.Told.{told, list-told}
 use Rattle.script.proofs.list.list.Statement.{statement}
 use Rattle.script.proofs.list.list.Tie as tie
 
@@ -13,14 +13,14 @@ unfolding Does
 returns c = record {
   text = _;
   puts = c .before .before .say .ensures .puts;
-  right = fails (denied (c .before .before .before .before .before .passes .ensures) (not-true _ (c .before .before .before .before .if1 .taken))) (told (c .before .before .say .ensures));
+  right = fails (denied (c .before .before .before .before .before .passes .ensures) (c .before .before .before .before .if1 .taken)) (told (c .before .before .say .ensures));
 }
 
 returns-2 : tie.Need-returns-2
 unfolding Does
 returns-2 c =
     let a = c .before .before .before .before .before .before .before .before .before .before .before .before .before .args in
-    let p = c .before .before .before .before .before .before .before .before .before .passes .ensures .sound (not-false _ (c .before .before .before .before .before .before .before .before .if1 .left)) in
+    let p = granted (c .before .before .before .before .before .before .before .before .before .passes .ensures) (c .before .before .before .before .before .before .before .before .if1 .left) in
     let rows = c .before .before .before .before .before .before .put-rows .ensures in
     record {
       text = _;

@@ -1,8 +1,9 @@
 use mathlib.Core.Path.{_≡_, refl, sym, ap, _∙_}
 use borrow.Author.Needs.{needs}
+use Rattle.numbers.specs.Decides.{failed}
 use Rattle.lines.specs.Answer.{textOf}
 use Rattle.atlas.specs.Promises.{fails, passes}
-use Rattle.script.proofs.Told.{told, denied}
+use Rattle.script.proofs.Told.{told}
 use Rattle.script.proofs.tell.outside.Statement.{statement}
 use Rattle.script.proofs.tell.outside.Tie as tie
 
@@ -17,7 +18,7 @@ returns-2 : tie.Need-returns-2
 returns-2 c = record {
   text = _;
   puts = c .before .before .say2 .ensures .puts;
-  right = fails (denied (c .before .before .before .before .before .passes .ensures) (c .before .before .before .before .if1 .left)) (told (c .before .before .say2 .ensures));
+  right = fails (failed (c .before .before .before .before .before .passes .ensures) (c .before .before .before .before .if1 .left)) (told (c .before .before .say2 .ensures));
 }
 
 pub outside-spec : {M : Type 1} → statement M
