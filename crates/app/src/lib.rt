@@ -5,7 +5,6 @@ use rows::header;
 use rows::header::Header;
 use rows::item;
 use rows::shelf;
-ghost use mathlib.Core.Path.{_≡_};
 ghost use Prim.Native.Nat.{_≤_};
 ghost use lib.ListN.{length};
 

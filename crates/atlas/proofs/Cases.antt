@@ -6,7 +6,7 @@ use mathlib.Core.Bool.{Bool, true, false, not, _||_, or-true}
 use mathlib.Core.List.{List}
 use native.Mathlib.Omega.{arith}
 use lib.IntN.{ℤ}
-use lib.Dec.{ltb, eqb}
+use lib.Dec.{ltb}
 use borrow.Author.Tests.{lt-ltb, le-ltb, eq-eqb, ne-eqb}
 use mir.Syntax.{w32}
 use mir.Val.{SFits, toZ, ofZ}
@@ -36,12 +36,11 @@ use Rattle.steps.specs.Init.{freshHeader, freshShelfTable, freshItemTable}
 use Rattle.steps.specs.Live.{isLive, liveAt, isVacant}
 use Rattle.bridge.proofs.Calls.{create-becomes, clear-becomes, look-none, look-some, occupied-is, free-is, empty-is, size-x-is, size-y-is}
 use Rattle.atlas.specs.Answers.{lookedUp}
-use Rattle.atlas.specs.Promises.{Judged, fails, passes, Unchanged, CreatedAs, Creates, RepliedAs, Clears}
+use Rattle.atlas.specs.Promises.{Judged, fails, passes, Unchanged, CreatedAs, Creates, RepliedAs}
 use Rattle.atlas.specs.declared.answers.Creation.the-variants as creation
 use Rattle.atlas.specs.declared.answers.Created.{Created}
 use Rattle.atlas.specs.declared.answers.Grant.the-variants as grant
 use Rattle.atlas.specs.declared.answers.Reply.the-variants as reply
-use Rattle.atlas.specs.declared.answers.Replied.{Replied}
 use Rattle.atlas.specs.declared.answers.Area.the-variants as area
 use Rattle.atlas.specs.declared.answers.Extent.the-variants as extent
 use Rattle.atlas.specs.declared.answers.Vacancy.the-variants as vacancy

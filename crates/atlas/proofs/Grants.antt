@@ -25,7 +25,6 @@ use Rattle.steps.specs.declared.grant.Granted.{Granted}
 use Rattle.steps.specs.declared.search.Place.{Place}
 use Rattle.steps.specs.declared.search.Held.{Held}
 use Rattle.steps.specs.declared.search.Held.the-variants.{Nothing, Good, Bad}
-use Rattle.bridge.specs.After.{Becomes}
 use Rattle.bridge.proofs.Calls.{asked-within, grant-nothing, grant-few, grant-placed, release-none, release-done}
 use Rattle.atlas.specs.Answers.{releasing}
 use Rattle.atlas.specs.Promises.{AllocatedAs, RepliedAs}

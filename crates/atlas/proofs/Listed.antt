@@ -1,12 +1,12 @@
 -- The list: what is written to the lent list, and what the walk meets, is the list of the atlas that is met in the tables. Assumes nothing.
 use Prim.Native.Nat.{ℕ, zero, suc, _+_, _-_, _≤_, _<_}
-use mathlib.Core.Path.{_≡_, refl, sym, ap, _∙_}
+use mathlib.Core.Path.{_≡_, refl, ap, _∙_}
 use mathlib.Core.Logic.{_≢_}
 use mathlib.Core.Bool.{Bool, true, false}
 use mathlib.Core.List.{List, [], _∷_, _++_}
 use native.Mathlib.Numerals.{add-one}
 use native.Mathlib.Omega.{arith}
-use lib.Dec.{ltb, eqb}
+use lib.Dec.{eqb}
 use lib.ListN.{length, length-append}
 use borrow.Author.Tests.{eq-eqb, ne-eqb, lt-ltb, le-ltb}
 use Rattle.numbers.specs.Pick.{pick}
@@ -24,7 +24,6 @@ use Rattle.bridge.proofs.Calls.{list-is}
 use Rattle.atlas.specs.Records.{records, written, listable}
 use Rattle.atlas.specs.Listing.{nextRecord}
 use Rattle.atlas.specs.Promises.{ListedAs}
-use Rattle.atlas.specs.declared.answers.Listing.{Listing}
 use Rattle.atlas.specs.declared.answers.Listing.the-variants as listing
 use Rattle.atlas.specs.declared.list.Record.the-variants as next
 

@@ -4,14 +4,12 @@ use mathlib.Core.Path.{_≡_, sym, _∙_}
 use mathlib.Core.List.{List}
 use lib.IntN.{ℤ}
 use Rattle.rows.specs.declared.header.Header.{Header}
-use Rattle.rules.specs.Atlas.{Atlas}
 use Rattle.rules.specs.Grant.{Outcome, refused, grants}
 use Rattle.rules.specs.Lies.{roomIn}
 use Rattle.rules.specs.Calls.{Made, refuses, makes, make}
 use Rattle.bridge.proofs.Calls.{one-outcome}
-use Rattle.atlas.specs.Answers.{releasing}
 use Rattle.atlas.specs.Records.{Listable, tooShort, lists}
-use Rattle.atlas.specs.Promises.{Judged, fails, passes, Unchanged, CreatedAs, Creates, AllocatedAs, Allocates, RepliedAs, Releases, Clears, ListedAs, Lists}
+use Rattle.atlas.specs.Promises.{Judged, fails, passes, CreatedAs, Creates, AllocatedAs, Allocates, RepliedAs, Releases, Clears, ListedAs, Lists}
 use Rattle.atlas.specs.declared.answers.Created.{Created}
 use Rattle.atlas.specs.declared.answers.Allocated.{Allocated}
 use Rattle.atlas.specs.declared.answers.Replied.{Replied}

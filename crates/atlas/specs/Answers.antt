@@ -1,7 +1,6 @@
 -- What the calls answer, in document 01's numbers: 0 and the values for a success; for a refusal its number, and zeros. And the answer that each
 -- outcome of the rules comes to. Assumes nothing.
 use Prim.Native.Nat.{ℕ}
-use mathlib.Core.Bool.{Bool, true, false}
 use mathlib.Core.List.{List, [], _∷_}
 use mathlib.Core.Option.{Option, none, some}
 use Rattle.numbers.specs.Pick.{pick}

@@ -1,12 +1,11 @@
 -- A request that passed checks 4 and 5, over the tables: 6, 7 or the grant at the place that the search holds. Assumes nothing.
 use Prim.Native.Nat.{ℕ}
 use mathlib.Core.Path.{_≡_}
-use mathlib.Core.Bool.{Bool, true, false}
 use mathlib.Core.List.{List}
 use Rattle.numbers.specs.Pick.{pick}
 use Rattle.numbers.specs.declared.request.Asked.{Asked}
 use Rattle.rows.specs.declared.header.Header.{Header}
-use Rattle.steps.specs.State.{State, state, Are}
+use Rattle.steps.specs.State.{state, Are}
 use Rattle.steps.specs.Search.{search}
 use Rattle.steps.specs.Spare.{hasRows}
 use Rattle.steps.specs.Grant.{grantAt, grantedAt}

@@ -1,17 +1,14 @@
 -- What each public call promises, for every header, every two tables and whatever is asked: the answer, the header after it, and each number of
 -- both tables. `S` and `I` are the shelf and the item table before the call, `S′` and `I′` after it, `r` is what it returns. Assumes nothing.
-use Prim.Native.Nat.{ℕ, _*_}
+use Prim.Native.Nat.{ℕ}
 use mathlib.Core.Path.{_≡_}
 use mathlib.Core.List.{List}
 use lib.IntN.{ℤ}
-use lib.Dec.{ltb}
 use lib.ListN.{length}
-use Rattle.numbers.specs.Pick.{pick}
 use Rattle.rows.specs.Header.{zeroHeader}
 use Rattle.rows.specs.declared.header.Header.{Header}
-use Rattle.rows.specs.declared.live.Live.{Live}
 use Rattle.rules.specs.Limits.{columns}
-use Rattle.rules.specs.Atlas.{Atlas, fresh}
+use Rattle.rules.specs.Atlas.{fresh}
 use Rattle.rules.specs.Atlas as rule
 use Rattle.rules.specs.Grant.{Outcome, refused, grants}
 use Rattle.rules.specs.Lies.{roomIn}

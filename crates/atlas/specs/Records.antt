@@ -1,7 +1,6 @@
 -- A lent list of live records: six numbers to a record, in the order of an answer. Assumes nothing.
 use Prim.Native.Nat.{ℕ, suc}
 use mathlib.Core.Path.{refl}
-use mathlib.Core.Bool.{Bool, true, false}
 use mathlib.Core.List.{List, [], _∷_}
 use lib.Dec.{ltb, lit<}
 use lib.ListN.{length, getD}

@@ -1,8 +1,8 @@
 -- Where rules 2 and 3 hold, the lists agree with the totals exactly when rules 5 to 7 hold. Assumes nothing.
-use mathlib.Core.Path.{_≡_, refl, sym, ap, _∙_}
+use mathlib.Core.Path.{_≡_, sym, ap, _∙_}
 use mathlib.Core.Logic.{_≢_}
 use mathlib.Core.List.{List}
-use Prim.Native.Nat.{ℕ, _+_, _≤_, _<_}
+use Prim.Native.Nat.{ℕ, _+_, _≤_}
 use native.Mathlib.Decide.{ℕ-discrete}
 use native.Mathlib.Omega.{arith}
 use borrow.Author.Tests.{eq-eqb, ne-eqb}
@@ -13,11 +13,11 @@ use Rattle.rows.specs.Item.{items}
 use Rattle.rows.specs.Views.{Links, linksOf}
 use Rattle.rows.specs.declared.header.Header.{Header}
 use Rattle.rows.specs.declared.item.ItemRow.{ItemRow}
-use Rattle.chains.specs.Lists.{_∈_, Each}
+use Rattle.chains.specs.Lists.{_∈_}
 use Rattle.rules.specs.Lies.{noLinks}
-use Rattle.rules.specs.Audit.{shelvesMet, allItemsMet, freedShelvesMet, freedItemsMet, Rule2, Rule3, Rule5, Rule6, Rule7, sumOver, areaMet}
+use Rattle.rules.specs.Audit.{shelvesMet, allItemsMet, freedShelvesMet, freedItemsMet, Rule2, Rule3, Rule5, Rule6, Rule7}
 use Rattle.audit.specs.declared.items.Totals.{Totals}
-use Rattle.audit.specs.Counts.{apart, strayIn, freeOf, strayOf, AllCounts, ListsAgree}
+use Rattle.audit.specs.Counts.{apart, strayIn, strayOf, AllCounts, ListsAgree}
 use Rattle.audit.proofs.Members.{each-in, in-each, sum-none, none-sum}
 use Rattle.audit.proofs.Serving.{all-flagged}
 use Rattle.audit.proofs.FreedRows.{freed-shelves-right, right-freed-shelves, freed-items-right, right-freed-items, wide-serves}

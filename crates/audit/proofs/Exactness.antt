@@ -1,14 +1,14 @@
 -- The five verdicts exclude one another: what the audit has decided where it gives one makes that one exact. Assumes nothing.
-use mathlib.Core.Path.{_≡_, refl, sym, ap, _∙_}
+use mathlib.Core.Path.{_≡_, refl, ap}
 use mathlib.Core.List.{List}
 use Prim.Native.Nat.{ℕ, _≤_}
 use native.Mathlib.Omega.{arith}
 use Rattle.numbers.specs.Index.{noRow}
-use Rattle.rows.specs.Row.{rows, rows-few}
+use Rattle.rows.specs.Row.{rows-few}
 use Rattle.rows.specs.Item.{items}
 use Rattle.rows.specs.Shelf.{shelves}
 use Rattle.rows.specs.declared.header.Header.{Header}
-use Rattle.rules.specs.Audit.{Rule1, Rule2, Rule3, Rule5, Rule6, Rule7}
+use Rattle.rules.specs.Audit.{Rule1, Rule2, Rule3}
 use Rattle.audit.specs.declared.Verdict.{Verdict}
 use Rattle.audit.specs.declared.Verdict.the-variants as says
 use Rattle.audit.specs.declared.items.Totals.{Totals}

@@ -1,15 +1,14 @@
 -- A shelf's free list: its members are free items of that shelf, no two alike; so the counts say whether it lacks none. Assumes nothing.
-use mathlib.Core.Path.{_≡_, refl, sym, ap, _∙_}
-use mathlib.Core.Logic.{_≢_}
+use mathlib.Core.Path.{_≡_, refl, sym, _∙_}
 use mathlib.Core.Bool.{Bool, true, false}
-use mathlib.Core.List.{List, [], _∷_, List·Memᴰ, List·Memᴰ·head, List·Memᴰ·not-nil, List·Memᴰ·eq-of-singleton, Memᴰ·cast}
-use Prim.Native.Nat.{ℕ, _+_, _≤_, _<_}
+use mathlib.Core.List.{List, [], _∷_, List·Memᴰ·head, List·Memᴰ·not-nil, List·Memᴰ·eq-of-singleton}
+use Prim.Native.Nat.{ℕ, _≤_, _<_}
 use native.Mathlib.Omega.{arith}
 use borrow.Author.Tests.{eq-eqb, eqb-true}
 use lib.Dec.{eqb}
 use lib.ListN.{length}
 use Rattle.numbers.specs.Index.{noRow}
-use Rattle.numbers.specs.Pick.{pick, pick-ap}
+use Rattle.numbers.specs.Pick.{pick}
 use Rattle.rows.specs.Row.{get}
 use Rattle.rows.specs.Item.{items}
 use Rattle.rows.specs.Shelf.{shelves}
@@ -18,7 +17,7 @@ use Rattle.chains.specs.Lists.{_∈_, Distinct, Each, gather}
 use Rattle.chains.specs.Walk.{Walk}
 use Rattle.chains.proofs.Lists.{distinct-within, distinct-cover}
 use Rattle.chains.proofs.Ends.{ends-distinct, ends-below}
-use Rattle.rules.specs.Audit.{freeNext, shelvesMet, itemsMet, freeMet, allItemsMet, FreeListRight, Rule2, Rule3, Rule5, sumOver}
+use Rattle.rules.specs.Audit.{freeNext, shelvesMet, itemsMet, freeMet, allItemsMet, FreeListRight, Rule3, Rule5, sumOver}
 use Rattle.audit.specs.Counts.{freeIn, freeOf, FreeItem, FreeList, FreeListOf, allFreeMet}
 use Rattle.audit.proofs.Turns.{length-gather, sum-gather}
 use Rattle.audit.proofs.Members.{walk-each, walk-map, each-in, in-each, gather-in, in-gather, gather-distinct, sum-parts, sum-same}

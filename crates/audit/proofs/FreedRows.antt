@@ -1,24 +1,23 @@
 -- Freed rows that are zero are apart from serving rows, which are not; so the counts say whether they hold exactly the rows that serve nowhere.
 -- Assumes nothing.
-use mathlib.Core.Path.{_≡_, refl, sym, ap, _∙_}
+use mathlib.Core.Path.{_≡_}
 use mathlib.Core.List.{List, [], _∷_}
 use Prim.Native.Nat.{ℕ, _+_, _≤_, _<_}
 use native.Mathlib.Omega.{arith}
 use lib.ListN.{length}
 use Rattle.numbers.specs.Index.{noRow}
 use Rattle.rows.specs.Row.{get}
-use Rattle.rows.specs.Item.{items, withItemNext, withGeneration}
-use Rattle.rows.specs.Shelf.{shelves, withShelfNext}
-use Rattle.rows.specs.Pool.{freedShelfRow, freedItemRow}
+use Rattle.rows.specs.Item.{items}
+use Rattle.rows.specs.Shelf.{shelves}
+use Rattle.rows.specs.Pool.{FreedShelf, FreedItem}
+use Rattle.rows.specs.PoolLaws.{freed-flat, freed-thin}
 use Rattle.rows.specs.declared.header.Header.{Header}
-use Rattle.rows.specs.declared.item.ItemRow.{ItemRow}
-use Rattle.rows.specs.declared.shelf.ShelfRow.{ShelfRow}
 use Rattle.chains.specs.Lists.{_∈_, Distinct, Each}
 use Rattle.chains.specs.Walk.{rowsFrom, Holds, Walk}
 use Rattle.chains.proofs.Lists.{decMemᴰ}
 use Rattle.chains.proofs.Ends.{ends-distinct, ends-below}
 use Rattle.rules.specs.Audit.{shelfNext, itemNext, shelvesMet, allItemsMet, freedShelvesMet, freedItemsMet, FreedRight, Rule2, Rule3}
-use Rattle.audit.specs.Counts.{FreedShelf, FreedItem, FreedShelves, FreedItems}
+use Rattle.audit.specs.Counts.{FreedShelves, FreedItems}
 use Rattle.audit.proofs.Members.{walk-each, in-each, each-in, counts-cover, cover-counts}
 use Rattle.audit.proofs.Serving.{shelves-distinct, shelves-below, shelves-deep, all-distinct, all-below, all-wide}
 
@@ -58,15 +57,6 @@ module _ (nx : ℕ → ℕ) (used head : ℕ) (b : used ≤ noRow) (serving : Li
   right-count f =
       cover-counts serving (rowsFrom nx used head) used ds (f .once) (λ r m k. f .exactly r .0 k .1 m) bs (λ r m. f .exactly r .0 m .0)
       (λ r u n. f .exactly r .1 (u, n))
-
--- a freed row has no depth, no width
-freed-flat : (s : ShelfRow) → FreedShelf s → s .height ≡ 0
-unfolding freedShelfRow withShelfNext
-freed-flat s e = ap (λ (v : ShelfRow). v .height) e
-
-freed-thin : (i : ItemRow) → FreedItem i → i .width ≡ 0
-unfolding freedItemRow withItemNext withGeneration
-freed-thin i e = ap (λ (v : ItemRow). v .width) e
 
 module _ (h : Header) (S I : List ℕ) (bs : h .«used_shelves» ≤ noRow) (bi : h .«used_items» ≤ noRow) (two : Rule2 h S I) (three : Rule3 h S I) where
   deep-apart : (r : ℕ) → r ∈ shelvesMet h S → FreedShelf (get shelves S r) → ⊥

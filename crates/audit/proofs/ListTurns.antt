@@ -1,10 +1,11 @@
 -- One turn along a free list and along each chain of freed rows. Assumes nothing.
-use mathlib.Core.Path.{_≡_, refl, sym, ap, _∙_}
+use mathlib.Core.Path.{_≡_}
 use mathlib.Core.Logic.{_≢_}
 use mathlib.Core.List.{List}
-use Prim.Native.Nat.{ℕ, _+_, _-_, _≤_, _<_}
+use Prim.Native.Nat.{ℕ, _-_, _≤_, _<_}
 use lib.ListN.{length}
 use Rattle.numbers.specs.Index.{noRow}
+use Rattle.rows.specs.Pool.{FreedShelf, FreedItem}
 use Rattle.rows.specs.Row.{get}
 use Rattle.rows.specs.Item.{items}
 use Rattle.rows.specs.Shelf.{shelves}
@@ -13,7 +14,7 @@ use Rattle.rows.specs.declared.item.ItemRow.{ItemRow}
 use Rattle.rows.specs.declared.shelf.ShelfRow.{ShelfRow}
 use Rattle.chains.specs.Walk.{rowsFrom}
 use Rattle.rules.specs.Audit.{shelfNext, itemNext, freeNext, freedShelvesMet, freedItemsMet}
-use Rattle.audit.specs.Counts.{FreeItem, FreeList, FreedShelf, FreedShelves, FreedItem, FreedItems}
+use Rattle.audit.specs.Counts.{FreeItem, FreeList, FreedShelves, FreedItems}
 use Rattle.audit.proofs.Turns.{Deciding, begins, onward, wrong, Lasting, lasts, lasted}
 
 -- ---- a free list

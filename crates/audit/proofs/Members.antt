@@ -1,13 +1,13 @@
 -- Rows of lists: what each of them has, rows gathered from rows, used rows that serve once, sums whose parts agree. Assumes nothing.
-use mathlib.Core.Path.{_≡_, refl, sym, ap, _∙_}
-use mathlib.Core.Logic.{_≢_, _⊎_, inl, inr, ⊎-elim}
-use mathlib.Core.List.{List, [], _∷_, _++_, List·Memᴰ, List·Memᴰ·head, List·Memᴰ·tail, List·Memᴰ·not-nil, List·Memᴰ·cases-cons, List·Memᴰ·append-cases, Memᴰ·cast, Memᴰ·append-left, Memᴰ·append-right}
+use mathlib.Core.Path.{_≡_, refl, sym, _∙_}
+use mathlib.Core.Logic.{_⊎_, ⊎-elim}
+use mathlib.Core.List.{List, [], _∷_, _++_, List·Memᴰ·head, List·Memᴰ·tail, List·Memᴰ·not-nil, List·Memᴰ·cases-cons, List·Memᴰ·append-cases, Memᴰ·cast, Memᴰ·append-left, Memᴰ·append-right}
 use Prim.Native.Nat.{ℕ, _+_, _≤_, _<_}
 use native.Mathlib.Omega.{arith}
 use lib.ListN.{length, length-append}
-use Rattle.chains.specs.Lists.{_∈_, _iff_, Distinct, Each, gather}
+use Rattle.chains.specs.Lists.{_∈_, Distinct, Each, gather}
 use Rattle.chains.specs.Walk.{rowsFrom, Holds, Walk}
-use Rattle.chains.proofs.Lists.{decMemᴰ, distinct-append, distinct-all, distinct-below, distinct-within, covers-length}
+use Rattle.chains.proofs.Lists.{decMemᴰ, distinct-append, distinct-all, distinct-below, covers-length}
 use Rattle.rules.specs.Audit.{sumOver}
 
 -- ---- along a chain

@@ -1,5 +1,5 @@
 -- Rows that serve on the shelf chain and the item chains: distinct, used, with a depth or a width. Rule 4 follows from rules 2 and 3. Assumes nothing.
-use mathlib.Core.Path.{_≡_, refl, sym, ap, _∙_}
+use mathlib.Core.Path.{_≡_}
 use mathlib.Core.List.{List}
 use Prim.Native.Nat.{ℕ, _≤_, _<_}
 use Rattle.numbers.specs.Index.{noRow}

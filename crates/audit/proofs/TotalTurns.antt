@@ -2,11 +2,11 @@
 use mathlib.Core.Path.{_≡_, refl, sym, ap, _∙_}
 use mathlib.Core.Logic.{_≢_}
 use mathlib.Core.List.{List, [], _∷_}
-use Prim.Native.Nat.{ℕ, _+_, _-_, _*_, _≤_, _<_}
+use Prim.Native.Nat.{ℕ, _+_, _-_, _*_, _≤_}
 use native.Mathlib.Nat.{zero-mul, add-mul, mul-le-mul}
 use native.Mathlib.Omega.{arith}
-use mathlib.Core.Bool.{Bool, true, false, not}
-use borrow.Author.Tests.{not-true, not-false}
+use mathlib.Core.Bool.{true, false, not}
+use borrow.Author.Tests.{not-false}
 use lib.Dec.{eqb}
 use lib.ListN.{length}
 use Rattle.numbers.specs.Index.{noRow}
@@ -15,17 +15,16 @@ use Rattle.rows.specs.Row.{get}
 use Rattle.rows.specs.Item.{items}
 use Rattle.rows.specs.Shelf.{shelves}
 use Rattle.rows.specs.declared.header.Header.{Header}
-use Rattle.rows.specs.declared.item.ItemRow.{ItemRow}
 use Rattle.rows.specs.declared.shelf.ShelfRow.{ShelfRow}
-use Rattle.chains.specs.Lists.{Each, gather}
+use Rattle.chains.specs.Lists.{Each}
 use Rattle.chains.specs.Walk.{rowsFrom}
-use Rattle.rules.specs.Audit.{shelfNext, freeNext, shelvesMet, itemsMet, freeMet, allItemsMet, ItemsRight, Rule3, sumOver, areaMet}
+use Rattle.rules.specs.Audit.{shelfNext, shelvesMet, itemsMet, freeMet, allItemsMet, ItemsRight, Rule3, sumOver, areaMet}
 use Rattle.audit.specs.declared.items.Tally.{Tally}
 use Rattle.audit.specs.declared.items.Totals.{Totals}
 use Rattle.audit.specs.declared.lists.Counted.{Counted}
-use Rattle.audit.specs.Counts.{freeOf, liveOf, liveIn, strayOf, rowsOf, RightOf, ShelfCounts, ShelfTallied, AllCounts, AllTallied, FreeListCounted, FreeListsCounted, FreeList, FreeListOf, allFreeMet}
+use Rattle.audit.specs.Counts.{freeOf, liveOf, liveIn, strayOf, rowsOf, RightOf, ShelfTallied, AllCounts, AllTallied, FreeListCounted, FreeListsCounted, FreeListOf, allFreeMet}
 use Rattle.numbers.specs.Decides.{denied, granted}
-use Rattle.audit.proofs.Turns.{met-step, met-end, met-out, Summing, sums, summed, sum-ended, sum-out, length-gather, sum-gather, length-sum, summed-as}
+use Rattle.audit.proofs.Turns.{met-step, met-end, met-out, Summing, sums, sum-ended, sum-out, length-gather, sum-gather, length-sum, summed-as}
 
 -- ---- a rule for each row by itself
 

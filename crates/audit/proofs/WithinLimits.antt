@@ -1,20 +1,14 @@
 -- The limits of a header, as the code tests them and as rule 1 states them. Assumes nothing.
-use mathlib.Core.Path.{_≡_, refl, sym, ap, _∙_}
-use mathlib.Core.Bool.{Bool, true, false, _&&_}
-use mathlib.Core.List.{List}
+use mathlib.Core.Path.{_≡_, sym, _∙_}
+use mathlib.Core.Bool.{Bool, true}
 use Prim.Native.Nat.{ℕ, _≤_}
-use native.Mathlib.Omega.{arith}
 use borrow.Author.Tests.{le-leb, eq-eqb}
-use lib.Dec.{leb, eqb}
 use Rattle.numbers.specs.Limits.{sizesGood, optionsGood, shelfWidthGood, withinLimits, within-true}
 use Rattle.numbers.specs.Limits as numbers
-use Rattle.numbers.specs.Axes.{along}
 use Rattle.numbers.specs.Sides.{oneTo}
 use Rattle.numbers.specs.declared.limits.Limits.{Limits}
-use Rattle.rows.specs.declared.header.Header.{Header}
 use Rattle.numbers.specs.Decides.{Decides}
 use Rattle.rules.specs.Limits.{WithinLimits}
-use Rattle.rules.specs.Audit.{limitsOf}
 
 one-to : (most n : ℕ) → 1 ≤ n → n ≤ most → oneTo most n ≡ true
 unfolding oneTo

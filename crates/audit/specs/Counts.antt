@@ -11,14 +11,14 @@ use Rattle.numbers.specs.Index.{noRow}
 use Rattle.rows.specs.Row.{get}
 use Rattle.rows.specs.Item.{items}
 use Rattle.rows.specs.Shelf.{shelves}
-use Rattle.rows.specs.Pool.{freedShelfRow, freedItemRow}
+use Rattle.rows.specs.Pool.{FreedShelf, FreedItem}
 use Rattle.rows.specs.declared.header.Header.{Header}
 use Rattle.rows.specs.declared.shelf.ShelfRow.{ShelfRow}
 use Rattle.rows.specs.declared.item.ItemRow.{ItemRow}
 use Rattle.chains.specs.Lists.{Each, gather}
 use Rattle.numbers.specs.Decides.{Decides}
 use Rattle.chains.specs.Walk.{rowsFrom, Walk}
-use Rattle.rules.specs.Audit.{shelfNext, itemNext, freeNext, shelvesMet, itemsMet, freeMet, allItemsMet, freedShelvesMet, freedItemsMet, ItemRight, along, atLeft, Rule3, sumOver, areaMet}
+use Rattle.rules.specs.Audit.{shelfNext, itemNext, freeNext, shelvesMet, freeMet, allItemsMet, freedShelvesMet, freedItemsMet, ItemRight, along, atLeft, Rule3, sumOver, areaMet}
 use Rattle.audit.specs.declared.items.Tally.{Tally}
 use Rattle.audit.specs.declared.items.Totals.{Totals}
 use Rattle.audit.specs.declared.lists.Counted.{Counted}
@@ -117,12 +117,6 @@ pub record FreeListsCounted (h : Header) (S I : List ℕ) (c : Counted) : Type 0
   pub count : c .right ≡ true → c .count ≡ length (allFreeMet h S I)
 
 -- ---- the freed rows
-
-abbrev pub FreedShelf : ShelfRow → Type 0
-FreedShelf s = s ≡ freedShelfRow (s .next)
-
-abbrev pub FreedItem : ItemRow → Type 0
-FreedItem i = i ≡ freedItemRow (i .next) (i .generation)
 
 unfoldable pub FreedShelves : Header → List ℕ → Type 0
 FreedShelves h S =

@@ -1,15 +1,14 @@
 // Rules 5 to 7: the free lists and the freed chains, against what was counted along the item chains.
-ghost use mathlib.Core.Path.{_≡_};
 ghost use Rattle.numbers.specs.Decides.{Decides};
-ghost use Rattle.audit.specs.Counts.{FreeItem, FreedShelf, FreedItem, FreeListCounted, FreeListsCounted, FreedShelvesCounted, FreedItemsCounted, ListsAgree};
+ghost use Rattle.audit.specs.Counts.{FreeItem, FreeListCounted, FreeListsCounted, FreedShelvesCounted, FreedItemsCounted, ListsAgree};
 use crate::items::Totals;
 use numbers::index::ItemIndex;
 use numbers::index::ShelfIndex;
 use rows::header::Header;
 use rows::item;
 use rows::item::ItemRow;
+use rows::pool;
 use rows::shelf;
-use rows::shelf::ShelfRow;
 
 // Whether the rows of a chain are right, and then how many they are.
 pub struct Counted {
@@ -28,56 +27,6 @@ fn free_item(on: u16, prev: u16, i: ItemRow) -> bool
         return false;
     }
     if i.width == 0 {
-        return false;
-    }
-    i.allocated == 0
-}
-
-// Whether a freed row holds zero but for next.
-fn freed_shelf(s: ShelfRow) -> bool
-    ensures { λ r. ⌜ Decides r (FreedShelf s) ⌝ }
-{
-    if s.x != 0 {
-        return false;
-    }
-    if s.y != 0 {
-        return false;
-    }
-    if s.height != 0 {
-        return false;
-    }
-    if s.prev.0 != 0 {
-        return false;
-    }
-    if s.first_item.0 != 0 {
-        return false;
-    }
-    if s.first_unallocated.0 != 0 {
-        return false;
-    }
-    s.is_empty == 0
-}
-
-// Whether a freed row holds zero but for next and generation.
-fn freed_item(i: ItemRow) -> bool
-    ensures { λ r. ⌜ Decides r (FreedItem i) ⌝ }
-{
-    if i.x != 0 {
-        return false;
-    }
-    if i.width != 0 {
-        return false;
-    }
-    if i.prev.0 != 0 {
-        return false;
-    }
-    if i.prev_unallocated.0 != 0 {
-        return false;
-    }
-    if i.next_unallocated.0 != 0 {
-        return false;
-    }
-    if i.shelf.0 != 0 {
         return false;
     }
     i.allocated == 0
@@ -156,7 +105,7 @@ pub fn freed_shelves(h: Header, shelves: &[u16]) -> Counted
             return WRONG;
         }
         let s = shelf::get_shelf(shelves, ShelfIndex(cur));
-        if !freed_shelf(s) {
+        if !pool::is_freed_shelf(s) {
             return WRONG;
         }
         cur = s.next.0;
@@ -182,7 +131,7 @@ pub fn freed_items(h: Header, items: &[u16]) -> Counted
             return WRONG;
         }
         let i = item::get_item(items, ItemIndex(cur));
-        if !freed_item(i) {
+        if !pool::is_freed_item(i) {
             return WRONG;
         }
         cur = i.next.0;

@@ -1,14 +1,14 @@
 -- The changes of a chain at one place, over any kind: an element inserted after another, merged into the one before it, taken out, put in another's
 -- place. Each asks what the table says afterwards of the rows that it touches, and that it says the same of all others. Assumes nothing.
 use Prim.Native.Nat.{ℕ}
-use mathlib.Core.Path.{_≡_, refl, sym, ap, _∙_}
+use mathlib.Core.Path.{_≡_, refl, sym}
 use mathlib.Core.Logic.{_≢_, _⊎_, inl, inr, ⊎-elim}
-use mathlib.Core.List.{List, [], _∷_, _++_, List·Memᴰ, List·Memᴰ·head, List·Memᴰ·tail, List·Memᴰ·not-nil, List·Memᴰ·cases-cons, List·Memᴰ·append-cases, Memᴰ·cast, Memᴰ·append-left, Memᴰ·append-right}
+use mathlib.Core.List.{List, [], _∷_, _++_, List·Memᴰ·head, List·Memᴰ·tail, List·Memᴰ·cases-cons, List·Memᴰ·append-cases, Memᴰ·cast, Memᴰ·append-left, Memᴰ·append-right}
 use Rattle.numbers.specs.Index.{noRow}
 use Rattle.chains.specs.Chain.{Kind, firstRow, Chain}
-use Rattle.chains.specs.Lists.{_∈_, Distinct, Apart, Each, gather, back-onto}
+use Rattle.chains.specs.Lists.{_∈_, Distinct, gather, back-onto}
 use Rattle.chains.proofs.Lists.{not-out, distinct-append, distinct-left, distinct-right, distinct-apart}
-use Rattle.chains.proofs.Chains.{onto-apart, apart-onto, in-onto, onto-in, rowsOf, Before, chain-split, chain-join, chain-frame, before-frame, relink-after, relink-before, ne-first}
+use Rattle.chains.proofs.Chains.{onto-apart, apart-onto, in-onto, onto-in, rowsOf, Before, chain-split, chain-join, before-frame, relink-after, relink-before, ne-first}
 
 module _ {E C : Type 0} (k : Kind E C) (at at′ : ℕ → C) where
   abbrev only-row : E → List ℕ

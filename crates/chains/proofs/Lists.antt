@@ -1,14 +1,14 @@
 -- Lists of distinct numbers: one that lies within another is no longer than it; of numbers below `n` there are at most `n`, and where
 -- there are `n`, every number below `n` is among them. Assumes nothing.
 use mathlib.Core.Path.{_≡_, refl, sym, ap, _∙_}
-use mathlib.Core.Logic.{_≢_, _⊎_, inl, inr, ⊎-elim}
+use mathlib.Core.Logic.{_≢_, _⊎_, ⊎-elim}
 use mathlib.Core.List.{List, [], _∷_, _++_, List·Memᴰ, List·Memᴰ·head, List·Memᴰ·tail, List·Memᴰ·not-nil, List·Memᴰ·cases-cons, List·Memᴰ·append-cases, Memᴰ·cast, Memᴰ·append-left, Memᴰ·append-right}
-use Prim.Native.Nat.{ℕ, zero, suc, _+_, _≤_, _<_, zero-le, suc-le-suc}
-use native.Mathlib.Nat.{le-refl, le-trans, not-suc-le-zero}
+use Prim.Native.Nat.{ℕ, zero, suc, _+_, _≤_, _<_, zero-le}
+use native.Mathlib.Nat.{not-suc-le-zero}
 use native.Mathlib.Decide.{ℕ-discrete}
 use native.Mathlib.Omega.{arith}
 use lib.ListN.{length}
-use Rattle.chains.specs.Lists.{_∈_, Distinct, Apart, Each, gather, back-onto}
+use Rattle.chains.specs.Lists.{Distinct}
 
 -- a member is another number than one that is no member
 pub not-out : {x y : ℕ} {l : List ℕ} → (List·Memᴰ x l → ⊥) → List·Memᴰ y l → y ≢ x

@@ -1,10 +1,10 @@
 -- The proof of a loop along a chain, once for all of them: a loop that carries a state along unchecked links decides whether a rule holds along them.
 -- `Rest` says what has still to hold, from the row that the loop has come to; `step` and `unstep` are one turn, `end` and `unend` the loop's end.
 -- Assumes nothing.
-use mathlib.Core.Path.{_≡_, refl, sym, ap, _∙_}
+use mathlib.Core.Path.{_≡_, refl, sym}
 use mathlib.Core.Logic.{_≢_}
 use mathlib.Core.List.{List, [], _∷_}
-use Prim.Native.Nat.{ℕ, zero, suc, _+_, _-_, _≤_, _<_}
+use Prim.Native.Nat.{ℕ, _-_, _≤_, _<_}
 use native.Mathlib.Omega.{arith}
 use lib.ListN.{length}
 use Rattle.numbers.specs.Index.{noRow}

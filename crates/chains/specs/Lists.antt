@@ -1,7 +1,5 @@
 -- Lists of rows and of what lies in them: membership, distinctness, a place in a list. Assumes nothing.
 use Prim.Native.Nat.{ℕ}
-use mathlib.Core.Path.{_≡_}
-use mathlib.Core.Bool.{Bool, true}
 use mathlib.Core.List.{List, [], _∷_, _++_, List·Memᴰ}
 
 abbrev pub _∈_ : ℕ → List ℕ → Type 0

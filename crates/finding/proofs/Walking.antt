@@ -25,7 +25,7 @@ use Rattle.chains.proofs.Chains.{rowsOf}
 use Rattle.rules.proofs.Flags.{flag-one}
 use Rattle.rules.specs.Atlas.{Item, Shelf, isEmpty}
 use Rattle.rules.specs.Search as rule
-use Rattle.rules.specs.Lies.{flag, item, free, shelf, Holds}
+use Rattle.rules.specs.Lies.{item, free, shelf, Holds}
 use Rattle.rules.specs.Keeps.{itemRows}
 use Rattle.steps.specs.Search as table
 use Rattle.steps.specs.declared.search.Held.{Held}

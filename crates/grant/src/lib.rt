@@ -1,6 +1,6 @@
 // An item granted: shelf and item are split where they are large enough. The rows have to suffice.
 ghost use mathlib.Core.Path.{_≡_};
-ghost use Rattle.steps.specs.State.{State, state, Are};
+ghost use Rattle.steps.specs.State.{state, Are};
 ghost use Rattle.steps.specs.Grant.{fitShelf, useShelf, takePart, takeWhole, takeItem, occupied, grantAt, grantedAt};
 use numbers::index::ItemIndex;
 use numbers::index::ShelfIndex;

@@ -8,8 +8,8 @@ use native.Mathlib.Decide.{ℕ-discrete}
 use lib.Dec.{eqb}
 use borrow.Author.Tests.{eq-eqb, ne-eqb}
 use Rattle.numbers.specs.Pick.{pick}
-use Rattle.chains.specs.Lists.{_∈_, Distinct, Apart, back-onto}
-use Rattle.chains.proofs.Chains.{in-onto, parts-apart, within}
+use Rattle.chains.specs.Lists.{_∈_, Distinct, back-onto}
+use Rattle.chains.proofs.Chains.{in-onto}
 use Rattle.rules.specs.Atlas.{Item}
 use Rattle.rules.specs.Grant.{replaceRow}
 use Rattle.rules.specs.Lies.{liveRows, freeRows}

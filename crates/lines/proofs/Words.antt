@@ -7,14 +7,14 @@ use mathlib.Core.Bool.{Bool, true, false, and-false}
 use mathlib.Core.List.{List, [], _∷_, _++_, append-assoc, append-nil}
 use lib.ListN.{length, getD, take, drop, length-append, drop-of-length-le}
 use lib.Seq.{drop-cons, drop-drop, length-take-le, getD-take, take-all}
-use lib.Dec.{eqb, leb}
+use lib.Dec.{eqb}
 use lib.IntN.{ℤ, pos}
 use lib.Signed.{mag}
 use mir.Syntax.{w32}
 use mir.Val.{toZ, ofZ}
 use mir.Facts.{toZ-ofZ}
 use borrow.Author.Tests.{eq-eqb, ne-eqb, le-leb, lt-leb}
-use Rattle.numbers.specs.Pick.{pick, pick-same}
+use Rattle.numbers.specs.Pick.{pick}
 use Rattle.numbers.specs.Sides.{oneTo}
 use Rattle.lines.specs.Numeral.{numberOf}
 use Rattle.lines.specs.Line.{words, onFirst, firstWord, Numbers, none, all, onNumbers, withNumber, numbersOf, at, createArgs, ofSix, ofTwo, ofNone, ofLetter, ofNumbers, ofWords, saidBy, commandOf}

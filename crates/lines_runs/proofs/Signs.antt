@@ -1,11 +1,11 @@
 -- A negative number of 32 bits, negated in 64. Assumes nothing.
-use Prim.Native.Nat.{ℕ, zero, suc, _<_}
+use Prim.Native.Nat.{zero, suc}
 use native.Mathlib.Omega.{arith}
-use mathlib.Core.Path.{_≡_, refl}
+use mathlib.Core.Path.{_≡_}
 use mathlib.Core.Bool.{true}
 use lib.Dec.{T}
 use lib.IntN.{ℤ, pos, negsuc, negℤ, natAbs, _-ℤ_, +ℤ-idl}
-use lib.Signed.{ltZ, nonNeg, mag}
+use lib.Signed.{ltZ, nonNeg}
 use mir.Syntax.{w32, w64}
 use mir.Val.{Fits, SFits}
 use mir.Facts.{sfits-lit}

@@ -9,15 +9,15 @@ use lib.Dec.{eqb}
 use borrow.Author.Tests.{eq-eqb, ne-eqb}
 use Rattle.numbers.specs.Pick.{pick}
 use Rattle.numbers.specs.Index.{noRow}
-use Rattle.chains.specs.Lists.{_∈_, Distinct, Apart, Each, back-onto}
+use Rattle.chains.specs.Lists.{_∈_, Each, back-onto}
 use Rattle.chains.specs.Chain.{firstOf}
-use Rattle.chains.proofs.Chains.{within, parts-apart, self, chain-frame, first-onto, first-in}
+use Rattle.chains.proofs.Chains.{self, chain-frame, first-onto, first-in}
 use Rattle.rows.specs.Row.{get}
 use Rattle.rows.specs.Item.{items}
 use Rattle.rows.specs.Views.{bodyOf, linksOf}
-use Rattle.rules.specs.Atlas.{Item, Shelf, isEmpty, liveArea, occupied}
+use Rattle.rules.specs.Atlas.{Item, Shelf, liveArea, occupied}
 use Rattle.rules.specs.Grant.{replaceRow}
-use Rattle.rules.specs.Lies.{item, free, liveRows, freeRows, Holds}
+use Rattle.rules.specs.Lies.{item, free, Holds}
 use Rattle.rules.proofs.LiveRows.{live-row, free-row}
 use Rattle.rules.specs.Keeps.{itemRows, allItemRows, FreeListed}
 

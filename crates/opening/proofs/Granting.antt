@@ -22,7 +22,7 @@ use Rattle.rows.specs.declared.header.Header.{Header}
 use Rattle.rows.specs.declared.shelf.ShelfRow.{ShelfRow}
 use Rattle.rules.specs.Atlas.{Item, Shelf, Freed, Pool, Atlas, isEmpty, liveArea, occupied}
 use Rattle.rules.specs.Grant.{taken, rowsLeft, newItemRow, itemTaken as itemRowTaken, granted, rest-of, replaceRow, holding, grantWhole, grantPart}
-use Rattle.rules.specs.Lies.{shelf, item, flag, headerOf, roomIn}
+use Rattle.rules.specs.Lies.{item, flag, headerOf, roomIn}
 use Rattle.rules.specs.Keeps.{allItemRows}
 use Rattle.steps.specs.Wrap.{plus32, plus32-is}
 use Rattle.steps.specs.State.{State}

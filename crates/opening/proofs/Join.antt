@@ -23,7 +23,7 @@ use Rattle.rules.specs.Keeps.{itemRows, freedRows, Shared}
 use Rattle.steps.specs.Wrap.{plus16-is}
 use Rattle.steps.specs.Live.{atRow}
 use Rattle.steps.specs.ItemEdits.{withSpan, joinNext}
-use Rattle.opening.proofs.Views.{sights, bodyPrev, bodySpan, seen-next, seen-width, seen-generation}
+use Rattle.opening.proofs.Views.{sights, bodyPrev, bodySpan, says-prev, says-span, seen-next, seen-width, seen-generation}
 use Rattle.rules.proofs.LiveRows.{a-free, live-row}
 use Rattle.opening.proofs.Taking.{freedRow, freed-shared}
 use Rattle.opening.proofs.Open.{Open, once, there, some, listed, others-stay}
@@ -111,15 +111,15 @@ module _ {I₀ I : List ℕ} {on : ℕ} {fl : List ℕ} {p : Pool Freed} {others
       (λ r m k. ⊎-elim (λ q. Memᴰ·append-left others (dropped .3 r q k)) (λ q. Memᴰ·append-right (itemRows now) q) (List·Memᴰ·append-cases (itemRows was) m))
 
   pub join-open : Open I₀ (joinNext I h (atRow (e .row))) on now fl (freeing (record { row = s .row; generation = s .generation }) p) others
-  unfolding bodyPrev bodySpan freeing
+  unfolding freeing
   join-open =
       let (freed′, same′) = others-stay o after away in
       rw join-is (record {
         lie = chain-drop (item on) (λ r. bodyOf (get items I r)) (λ r. bodyOf (get items after r)) ib e e′ s ys refl (once o) (some o)
-            (bodyPrev (e .row)) (λ x m. refl)
+            (bodyPrev (e .row)) (λ x m. says-prev on _ m x (e .row))
             (λ r m a b c. simp sights)
             (λ r m a b q. rw (← q) (simp (sights, there o r m)))
-            (λ ce cs a b. simp (sights, there o (e .row) e-in) (ap (bodySpan (e .width + s .width) below) ce))
+            (λ ce cs a b. simp (sights, there o (e .row) e-in) (ap (bodySpan (e .width + s .width) below) ce ∙ says-span on _ _ e (e .width + s .width) below))
             (o .lie);
         list = chain-frame free (λ r. linksOf (get items I r)) (λ r. linksOf (get items after r)) noRow fl (λ r m. kept-links r (not-out s-out m)) (o .list);
         live = λ r m.

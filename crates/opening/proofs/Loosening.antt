@@ -23,7 +23,7 @@ use Rattle.rows.specs.declared.header.Header.{Header}
 use Rattle.rules.specs.Atlas.{Item, Freed, Pool, Rows}
 use Rattle.rules.specs.Grant.{replaceRow}
 use Rattle.rules.specs.Release.{Loose, freeing, freeItemRow, freeWith, mergeNext, mergeInto}
-use Rattle.rules.specs.Lies.{item, flag, freeRows}
+use Rattle.rules.specs.Lies.{flag, freeRows}
 use Rattle.steps.specs.Live.{atRow}
 use Rattle.steps.specs.ItemEdits.{markFree, unlist, enlist, joinNext, firstAfter}
 use Rattle.steps.specs.Release.{Loose as Loosened, isFreeItem, absorbNext, mergeNext as nextMerged, mergeInto as intoMerged}

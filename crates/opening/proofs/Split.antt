@@ -26,7 +26,7 @@ use Rattle.rules.specs.Keeps.{itemRows, freedRows, Shared}
 use Rattle.steps.specs.Wrap.{plus16-is, minus16-is}
 use Rattle.steps.specs.Live.{atRow}
 use Rattle.steps.specs.ItemEdits.{withSpan, restOf, splitItem}
-use Rattle.opening.proofs.Views.{sights, bodyPrev, bodySpan, bodyRest, seen-next}
+use Rattle.opening.proofs.Views.{sights, bodyPrev, bodySpan, bodyRest, says-prev, says-span, seen-next}
 use Rattle.rules.proofs.LiveRows.{live-row}
 use Rattle.opening.proofs.Taking.{freedRow, Fresh, fresh, taken-shared, taken-chain, item-new, item-generation}
 use Rattle.opening.proofs.Open.{Open, once, there, some, used-some, listed-row}
@@ -119,7 +119,6 @@ module _ {I₀ I : List ℕ} {on : ℕ} {fl : List ℕ} {p : Pool Freed} {others
       rw (plus16-is (i .x) width a, minus16-is (i .width) width within b)
 
   pub split-open : Open I₀ (splitItem I h (atRow (i .row)) width) on is′ fl (taken p) others
-  unfolding bodyPrev bodySpan
   split-open =
       let at : i .row ∈ itemRows is = at-in ib i ia o in
       let ne : i .row ≢ new = not-out new-out at in
@@ -127,11 +126,11 @@ module _ {I₀ I : List ℕ} {on : ℕ} {fl : List ℕ} {p : Pool Freed} {others
       let nn : new ≢ firstRow (item on .row) ia = ne-first (item on) ia new new-some (λ m. new-out (next-in new m)) in
       rw split-is (record {
         lie = chain-insert (item on) (λ r. bodyOf (get items I r)) (λ r. bodyOf (get items I′ r)) ib i i′ n ia refl (once o) (some o)
-            (bodyPrev new) (λ x m. refl)
+            (bodyPrev new) (λ x m. says-prev on _ m x new)
             (λ r m a b. let c : r ≢ new = not-out new-out m in simp sights)
             (λ r m a e. let c : r ≢ new = not-out new-out m in rw (← e) (simp (sights, there o r m)))
             (λ c b. (
-              simp (sights, there o (i .row) at) (ap (bodySpan width new) c),
+              simp (sights, there o (i .row) at) (ap (bodySpan width new) c ∙ says-span on _ _ i width new),
               simp (sights, new-there) (ap (bodyRest (i .row) width (newGeneration p)) c ∙ rest-says _ _),
             ))
             (o .lie);

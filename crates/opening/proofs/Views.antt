@@ -3,16 +3,15 @@
 use Prim.Native.Nat.{ℕ}
 use mathlib.Core.Path.{_≡_, refl, ap}
 use mathlib.Core.List.{List}
-use Rattle.numbers.specs.Index.{noRow}
 use Rattle.numbers.specs.declared.index.ItemIndex.{ItemIndex}
 use Rattle.numbers.specs.declared.index.ShelfIndex.{ShelfIndex}
-use Rattle.rows.specs.Row.{rows, get, rows-put, get-put-other}
+use Rattle.rows.specs.Row.{get, rows-put, get-put-other}
 use Rattle.rows.specs.Change.{change, rows-change, get-change-other, get-put-there, get-change-there, unseen}
 use Rattle.rows.specs.Item.{items, withItemX, withWidth, withItemPrev, withItemNext, withPrevFree, withNextFree, withShelf, withAllocated, withGeneration}
-use Rattle.rows.specs.Views.{Body, Links, bodyOf, linksOf}
+use Rattle.rows.specs.Views.{Body, Links, bodyOf, linksOf, inBody}
 use Rattle.rows.specs.declared.item.ItemRow.{ItemRow}
-use Rattle.rules.specs.Lies.{noLinks}
-use Rattle.steps.specs.Wrap.{plus16, minus16}
+use Rattle.rules.specs.Atlas.{Item}
+use Rattle.rules.specs.Lies.{item, noLinks}
 use Rattle.steps.specs.ItemEdits.{withLinks, withSpan, markLive, markFree, restOf, loneItem}
 
 pub ruleset reads = (rows-put, rows-change, get-put-there, get-put-other, get-change-there, get-change-other)
@@ -20,29 +19,37 @@ pub ruleset reads = (rows-put, rows-change, get-put-there, get-put-other, get-ch
 -- ---- the views themselves changed
 
 unfoldable pub bodyPrev : ℕ → Body → Body
-bodyPrev n b = record { x = b .x; width = b .width; prev = n; next = b .next; shelf = b .shelf; allocated = b .allocated; generation = b .generation }
+unfolding inBody withItemPrev
+bodyPrev n = inBody (withItemPrev (record { 0 = n }))
 
 unfoldable pub bodySpan : ℕ → ℕ → Body → Body
-bodySpan width next b = record { x = b .x; width = width; prev = b .prev; next = next; shelf = b .shelf; allocated = b .allocated; generation = b .generation }
+unfolding inBody withSpan withWidth withItemNext
+bodySpan width next = inBody (withSpan width (record { 0 = next }))
 
 unfoldable pub bodyMark : ℕ → Body → Body
-bodyMark flag b = record { x = b .x; width = b .width; prev = b .prev; next = b .next; shelf = b .shelf; allocated = flag; generation = b .generation }
+unfolding inBody withAllocated
+bodyMark flag = inBody (withAllocated flag)
 
 -- what is left of an item in row `at`, free, in a row of its own
 unfoldable pub bodyRest : ℕ → ℕ → ℕ → Body → Body
-bodyRest at width generation b = record {
-  x = plus16 (b .x) width;
-  width = minus16 (b .width) width;
-  prev = at;
-  next = b .next;
-  shelf = b .shelf;
-  allocated = 0;
-  generation = generation;
-}
+unfolding inBody restOf withLinks withGeneration withItemX withWidth withItemPrev withPrevFree withNextFree withAllocated
+bodyRest at width generation = inBody (λ v. withGeneration generation (restOf v (record { 0 = at }) width))
 
 -- a free item that has its shelf to itself
 unfoldable pub bodyLone : ℕ → ℕ → ℕ → ℕ → Body
-bodyLone x width on generation = record { x = x; width = width; prev = noRow; next = noRow; shelf = on; allocated = 0; generation = generation }
+unfolding bodyOf loneItem withLinks withSpan withGeneration withItemX withWidth withItemPrev withItemNext withPrevFree withNextFree withShelf
+bodyLone x width on generation = bodyOf (withGeneration generation (loneItem x width (record { 0 = on })))
+
+-- what an item's row says, so changed
+module _ (on prev next : ℕ) (i : Item) where
+  pub says-prev : (n : ℕ) → bodyPrev n (item on .says prev i next) ≡ item on .says n i next
+  unfolding bodyPrev
+  says-prev n = refl
+
+  pub says-span : (width n : ℕ)
+      → bodySpan width n (item on .says prev i next) ≡ item on .says prev (record { row = i .row; x = i .x; width = width; live = i .live; generation = i .generation }) n
+  unfolding bodySpan
+  says-span width n = refl
 
 unfoldable pub linksPrev : ℕ → Links → Links
 linksPrev n l = record { prev = n; next = l .next }
@@ -57,15 +64,15 @@ links p n = record { prev = p; next = n }
 
 module _ (v : ItemRow) (n : ItemIndex) where
   pub body-withItemPrev : bodyOf (withItemPrev n v) ≡ bodyPrev (n .0) (bodyOf v)
-  unfolding bodyOf withItemPrev bodyPrev
+  unfolding bodyPrev
   body-withItemPrev = refl
 
   pub body-withSpan : (w : ℕ) → bodyOf (withSpan w n v) ≡ bodySpan w (n .0) (bodyOf v)
-  unfolding bodyOf withSpan withWidth withItemNext bodySpan
+  unfolding bodySpan
   body-withSpan w = refl
 
   pub body-restOf : (w g : ℕ) → bodyOf (withGeneration g (restOf v n w)) ≡ bodyRest (n .0) w g (bodyOf v)
-  unfolding bodyOf restOf withLinks withGeneration withItemX withWidth withItemPrev withPrevFree withNextFree withAllocated bodyRest
+  unfolding bodyRest
   body-restOf w g = refl
 
   pub links-restOf : (w g : ℕ) → linksOf (withGeneration g (restOf v n w)) ≡ noLinks
@@ -86,7 +93,7 @@ module _ (v : ItemRow) (n : ItemIndex) where
 
 module _ (v : ItemRow) where
   pub body-markLive : bodyOf (markLive v) ≡ bodyMark 1 (bodyOf v)
-  unfolding bodyOf markLive withLinks withPrevFree withNextFree withAllocated bodyMark
+  unfolding bodyMark markLive withLinks withPrevFree withNextFree
   body-markLive = refl
 
   pub links-markLive : linksOf (markLive v) ≡ noLinks
@@ -94,12 +101,12 @@ module _ (v : ItemRow) where
   links-markLive = refl
 
   pub body-markFree : bodyOf (markFree v) ≡ bodyMark 0 (bodyOf v)
-  unfolding bodyOf markFree withAllocated bodyMark
+  unfolding bodyMark markFree
   body-markFree = refl
 
 module _ (x w g : ℕ) (on : ShelfIndex) where
   pub body-loneItem : bodyOf (withGeneration g (loneItem x w on)) ≡ bodyLone x w (on .0) g
-  unfolding bodyOf loneItem withLinks withSpan withGeneration withItemX withWidth withItemPrev withItemNext withPrevFree withNextFree withShelf bodyLone
+  unfolding bodyLone
   body-loneItem = refl
 
   pub links-loneItem : linksOf (withGeneration g (loneItem x w on)) ≡ noLinks

@@ -13,7 +13,7 @@ use Rattle.chains.specs.Lists.{_∈_, Each, Neighbours}
 use Rattle.chains.specs.Walk.{Ends}
 use Rattle.chains.proofs.Ends.{ends-below}
 use Rattle.rules.specs.Atlas.{Shelf, occupied}
-use Rattle.rules.specs.Lies.{shelf, noLinks, Holds, headerOf, Lies, roomIn}
+use Rattle.rules.specs.Lies.{noLinks, Holds, headerOf, Lies, roomIn}
 use Rattle.rules.specs.Keeps.{Filled, NotBothFree, shelfRows, allItemRows, freedRows, FreeListed, AllListed, Shared, Sound, Shaped, Keeps}
 use Rattle.rules.specs.Audit.{limitsOf, shelfNext, itemNext, shelvesMet, itemsMet, freeMet, allItemsMet, freedShelvesMet, freedItemsMet, shelfIn, freedIn, atlasIn, atTop, atLeft, oneFree, ItemRight, along, ItemsRight, FreeListRight, Rule2, Rule3, Rule5, Passes}
 use Rattle.reading.proofs.Lists.{each-at, each-from, each-map, holds-each, first-map, gathered, in-gather}

@@ -1,12 +1,11 @@
 -- An atlas that lies in a header and two tables is the one that is met there. Assumes nothing.
 use Prim.Native.Nat.{ℕ, _≤_, _<_}
 use mathlib.Core.Path.{_≡_, sym, ap, _∙_}
-use mathlib.Core.Bool.{Bool, true, false, not}
-use mathlib.Core.List.{List, [], _∷_, map, List·Memᴰ·not-nil}
+use mathlib.Core.Bool.{not}
+use mathlib.Core.List.{List, map}
 use native.Mathlib.Omega.{arith}
 use lib.Dec.{eqb}
 use Rattle.numbers.specs.Index.{noRow}
-use Rattle.numbers.specs.Pick.{pick}
 use Rattle.rows.specs.Row.{get, rows-few}
 use Rattle.rows.specs.Item.{items, withItemNext, withGeneration}
 use Rattle.rows.specs.Shelf.{shelves}
@@ -17,9 +16,9 @@ use Rattle.rows.specs.declared.item.ItemRow.{ItemRow}
 use Rattle.rows.specs.declared.shelf.ShelfRow.{ShelfRow}
 use Rattle.chains.specs.Lists.{_∈_, Each}
 use Rattle.chains.specs.Walk.{rowsFrom}
-use Rattle.chains.proofs.Chains.{self, within, each-frame}
+use Rattle.chains.proofs.Chains.{self, each-frame}
 use Rattle.rules.specs.Atlas.{Item, Shelf, Freed, Atlas}
-use Rattle.rules.specs.Lies.{item, free, shelf, freedShelf, freedItem, freeRows, Holds, headerOf, Lies, roomIn}
+use Rattle.rules.specs.Lies.{item, free, shelf, freedShelf, freedItem, Holds, headerOf, Lies, roomIn}
 use Rattle.rules.proofs.LiveRows.{free-row}
 use Rattle.rules.specs.Keeps.{itemRows, FreeListed, Keeps}
 use Rattle.rules.specs.Audit.{limitsOf, shelfNext, itemNext, freeNext, shelvesMet, itemsMet, freeMet, freedShelvesMet, freedItemsMet, itemIn, shelfIn, freedIn, atlasIn}

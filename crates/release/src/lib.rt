@@ -1,6 +1,6 @@
 // A live item released: merged with its free neighbours, and an emptied shelf with its empty ones.
 ghost use mathlib.Core.Path.{_≡_};
-ghost use Rattle.steps.specs.State.{State, state, Are};
+ghost use Rattle.steps.specs.State.{state, Are};
 ghost use Rattle.steps.specs.Release.{loose, AreLoose, isFreeItem, absorbNext, mergeNext, mergeInto, loosen, oneFree, flagOf, joins, mergeBelow, mergeAbove, vacated, releaseItem, releaseAt};
 use numbers::index::ItemIndex;
 use numbers::index::ShelfIndex;

@@ -23,7 +23,7 @@ unfoldable pub linksOf : ItemRow → Links
 linksOf v = record { prev = v .«prev_unallocated» .0; next = v .«next_unallocated» .0 }
 
 -- the row with these two views
-seenAs : Body → Links → ItemRow
+unfoldable pub seenAs : Body → Links → ItemRow
 seenAs b l = record {
   x = b .x;
   width = b .width;
@@ -40,3 +40,8 @@ seenAs b l = record {
 pub same-row : (v w : ItemRow) → bodyOf v ≡ bodyOf w → linksOf v ≡ linksOf w → v ≡ w
 unfolding bodyOf linksOf seenAs
 same-row v w b l = ap (λ (a : Body). seenAs a (linksOf v)) b ∙ ap (λ (a : Links). seenAs (bodyOf w) a) l
+
+-- what a change of the row makes of all but its free links
+unfoldable pub inBody : (ItemRow → ItemRow) → Body → Body
+unfolding bodyOf seenAs
+inBody change b = bodyOf (change (seenAs b (record { prev = 0; next = 0 })))

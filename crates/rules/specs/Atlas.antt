@@ -1,7 +1,7 @@
 -- An atlas as document 01 speaks of it: columns of shelves, shelves of stretches, and the rows that name them. No link and no
 -- offset stands here: how an atlas lies in the two tables is told in Lies. Assumes nothing.
 use Prim.Native.Nat.{ℕ, zero, suc, _+_, _*_}
-use mathlib.Core.Bool.{Bool, true, false, not}
+use mathlib.Core.Bool.{Bool, false, not}
 use mathlib.Core.List.{List, [], _∷_}
 use Rattle.numbers.specs.Pick.{pick}
 use Rattle.rules.specs.Limits.{columns}

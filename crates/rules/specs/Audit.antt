@@ -2,7 +2,7 @@
 -- keep them. `S` is the shelf table and `I` the item table throughout. Assumes nothing.
 use Prim.Native.Nat.{ℕ, _+_, _*_, _%_, _≤_, _<_}
 use mathlib.Core.Path.{_≡_}
-use mathlib.Core.Bool.{Bool, true, false, not, _&&_}
+use mathlib.Core.Bool.{Bool, false, not, _&&_}
 use mathlib.Core.List.{List, [], _∷_, map}
 use lib.Dec.{ltb, eqb}
 use Rattle.numbers.specs.Pick.{pick}
@@ -13,7 +13,7 @@ use Rattle.numbers.specs.declared.limits.Limits.{Limits}
 use Rattle.rows.specs.Row.{rows, get}
 use Rattle.rows.specs.Item.{items}
 use Rattle.rows.specs.Shelf.{shelves}
-use Rattle.rows.specs.Pool.{freedShelfRow, freedItemRow}
+use Rattle.rows.specs.Pool.{FreedShelf, FreedItem}
 use Rattle.rows.specs.Views.{linksOf}
 use Rattle.rows.specs.declared.header.Header.{Header}
 use Rattle.rows.specs.declared.shelf.ShelfRow.{ShelfRow}
@@ -197,8 +197,8 @@ areaMet h S I on =
 pub record Rule7 (h : Header) (S I : List ℕ) : Type 0 where
   pub occupied : h .occupied ≡ sumOver (areaMet h S I) (shelvesMet h S)
   pub live-unlinked : Each (λ r. get items I r .allocated ≡ 1 → linksOf (get items I r) ≡ noLinks) (allItemsMet h S I)
-  pub freed-shelves-zero : Each (λ r. get shelves S r ≡ freedShelfRow (get shelves S r .next)) (freedShelvesMet h S)
-  pub freed-items-zero : Each (λ r. get items I r ≡ freedItemRow (get items I r .next) (get items I r .generation)) (freedItemsMet h I)
+  pub freed-shelves-zero : Each (λ r. FreedShelf (get shelves S r)) (freedShelvesMet h S)
+  pub freed-items-zero : Each (λ r. FreedItem (get items I r)) (freedItemsMet h I)
 
 -- ---- the audit passes exactly when all hold
 

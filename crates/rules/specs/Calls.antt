@@ -1,7 +1,7 @@
 -- What each call answers for an atlas that passed the audit, with the checks in document 01's order; and runs of calls. Answer 3 is given before
 -- any of this, where the audit fails; a call that is refused changes nothing. Assumes nothing.
 use Prim.Native.Nat.{ℕ, zero, suc, _-_, _*_}
-use mathlib.Core.Bool.{Bool, true, false, _&&_, _||_}
+use mathlib.Core.Bool.{Bool, true, _&&_, _||_}
 use mathlib.Core.List.{List, [], _∷_, _++_}
 use mathlib.Core.Option.{Option, none, some}
 use lib.IntN.{ℤ}
@@ -11,13 +11,12 @@ use Rattle.numbers.specs.Request.{asked}
 use Rattle.numbers.specs.Limits.{createNumbers}
 use Rattle.numbers.specs.declared.limits.Limits.{Limits}
 use Rattle.numbers.specs.declared.limits.Made.the-variants.{Good as Within, Refused as Beyond}
-use Rattle.numbers.specs.declared.request.Request.{Request}
 use Rattle.numbers.specs.declared.request.Request.the-variants.{Good, Refused}
 use Rattle.rows.specs.declared.live.Live.{Live}
 use Rattle.rules.specs.Limits.{columns, xOf, yOf}
-use Rattle.rules.specs.Atlas.{Item, Shelf, Atlas, Room, isEmpty, occupied, fresh}
+use Rattle.rules.specs.Atlas.{Shelf, Atlas, Room, isEmpty, occupied, fresh}
 use Rattle.rules.specs.Grant.{Outcome, refused, grants, grant, liveOf}
-use Rattle.rules.specs.Release.{Found, find, findLive, releaseFound}
+use Rattle.rules.specs.Release.{find, findLive, releaseFound}
 
 -- ---- create: 1, 2, then 7 where either table has fewer than C rows
 

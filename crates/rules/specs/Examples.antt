@@ -2,8 +2,8 @@
 use Prim.Native.Nat.{ℕ}
 use mathlib.Core.Path.{_≡_, refl}
 use mathlib.Core.List.{List, [], _∷_}
-use mathlib.Core.Option.{Option, none}
-use lib.IntN.{ℤ, pos, negsuc}
+use mathlib.Core.Option.{none}
+use lib.IntN.{pos, negsuc}
 use Rattle.rows.specs.declared.live.Live.{Live}
 use Rattle.rules.specs.Atlas.{Room}
 use Rattle.rules.specs.Calls.{Call, create, ask, give-back, look, totals, show, start-over, Answer, no, columns-made, at, done, space, lives, run}

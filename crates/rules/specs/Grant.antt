@@ -13,7 +13,7 @@ use Rattle.chains.specs.Lists.{Focus, back-onto}
 use Rattle.rows.specs.declared.live.Live.{Live}
 use Rattle.rules.specs.Limits.{xOf, yOf}
 use Rattle.rules.specs.Atlas.{Item, Shelf, Freed, Pool, Rows, Atlas, Room, isEmpty}
-use Rattle.rules.specs.Search.{Held, nothing, good, bad, search}
+use Rattle.rules.specs.Search.{nothing, good, bad, search}
 
 -- ---- rows: the latest freed one first, with its old generation plus one; else the next unused one, generation 1
 

@@ -1,7 +1,7 @@
 -- What an atlas keeps from call to call: its shelves fill the columns, its items fill the shelves, and every row serves once. Assumes nothing.
 use Prim.Native.Nat.{ℕ, _+_, _*_, _%_, _≤_, _<_}
 use mathlib.Core.Path.{_≡_}
-use mathlib.Core.Bool.{Bool, true, false, not, _&&_}
+use mathlib.Core.Bool.{false, not, _&&_}
 use mathlib.Core.List.{List, [], _∷_}
 use lib.Dec.{eqb}
 use Rattle.numbers.specs.Pick.{pick}
@@ -10,7 +10,7 @@ use Rattle.rules.specs.Limits.{columns, WithinLimits}
 use Rattle.numbers.specs.declared.limits.Limits.{Limits}
 use Rattle.chains.specs.Lists.{_∈_, _iff_, Distinct, Each, Neighbours, gather}
 use Rattle.chains.specs.Chain.{firstRow}
-use Rattle.rules.specs.Atlas.{Item, Shelf, Freed, Pool, Rows, Atlas, Room}
+use Rattle.rules.specs.Atlas.{Item, Shelf, Freed, Rows, Atlas, Room}
 use Rattle.rules.specs.Release.{joins}
 use Rattle.rules.specs.Lies.{freeRows}
 

@@ -15,7 +15,7 @@ use Rattle.rows.specs.declared.shelf.ShelfRow.{ShelfRow}
 use Rattle.rows.specs.declared.item.ItemRow.{ItemRow}
 use Rattle.chains.specs.Lists.{_∈_, Each, gather}
 use Rattle.chains.specs.Chain.{Kind, firstRow, firstOf, Chain}
-use Rattle.rules.specs.Atlas.{Item, Shelf, Freed, Rows, Atlas, Room, isEmpty, occupied}
+use Rattle.rules.specs.Atlas.{Item, Shelf, Freed, Atlas, Room, isEmpty, occupied}
 
 abbrev pub flag : Bool → ℕ
 flag true = 1

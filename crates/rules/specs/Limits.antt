@@ -1,5 +1,5 @@
 -- What create fixes and no call changes: the limits within which they lie, the columns, the alignment along the shelves. Assumes nothing.
-use Prim.Native.Nat.{ℕ, _*_, _/_, _%_, _≤_}
+use Prim.Native.Nat.{ℕ, _*_, _%_, _≤_}
 use mathlib.Core.Path.{_≡_}
 use lib.Dec.{eqb}
 use Rattle.numbers.specs.Pick.{pick}

@@ -1,12 +1,12 @@
 -- What a release changes: the item is merged with its free neighbours, an emptied shelf with its empty ones. Assumes nothing.
 use Prim.Native.Nat.{ℕ, _+_}
-use mathlib.Core.Bool.{Bool, true, false, not, _&&_}
+use mathlib.Core.Bool.{Bool, false, _&&_}
 use mathlib.Core.List.{List, [], _∷_}
 use mathlib.Core.Option.{Option, none, some}
 use lib.Dec.{eqb}
 use Rattle.numbers.specs.Pick.{pick}
 use Rattle.chains.specs.Lists.{Focus, back-onto}
-use Rattle.rules.specs.Atlas.{Item, Shelf, Freed, Pool, Rows, Atlas, isEmpty}
+use Rattle.rules.specs.Atlas.{Item, Shelf, Pool, Rows, Atlas, isEmpty}
 use Rattle.rules.specs.Grant.{findItem, replaceRow, holding}
 
 -- ---- a freed row goes to the front of its chain

@@ -1,6 +1,6 @@
 -- The rows of a list, one after another, and what a list says where the audit passes. Assumes nothing.
-use Prim.Native.Nat.{ℕ, zero, suc, _+_, _≤_}
-use mathlib.Core.Path.{_≡_, refl, sym, ap, _∙_}
+use Prim.Native.Nat.{ℕ, _+_, _≤_}
+use mathlib.Core.Path.{_≡_, refl}
 use mathlib.Core.Bool.{Bool, true, false}
 use mathlib.Core.List.{List, [], _∷_, _++_, append-nil}
 use native.Mathlib.Omega.{arith}
@@ -15,7 +15,7 @@ use Rattle.rows.specs.declared.header.Header.{Header}
 use Rattle.rows.specs.declared.live.Live.{Live}
 use Rattle.steps.specs.Live.{liveAt}
 use Rattle.finding.proofs.Listing.{rowListed, rowsListed}
-use Rattle.lines.specs.Put.{Puts, put-nothing}
+use Rattle.lines.specs.Put.{Puts}
 use Rattle.lines.specs.Answer.{textOf}
 use Rattle.lines.specs.declared.answer.Answer.the-variants as answer
 use Rattle.script.specs.Listing.{linesOf, Listed, listed-none}

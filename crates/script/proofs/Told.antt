@@ -1,6 +1,6 @@
 -- What is said after an audit: a refusal where it fails, the answer where it passes. Assumes nothing.
 use Prim.Native.Nat.{ℕ}
-use mathlib.Core.Path.{_≡_, refl, sym, ap, _∙_}
+use mathlib.Core.Path.{_≡_, refl, sym, _∙_}
 use mathlib.Core.List.{List, _++_}
 use lib.ListN.{length}
 use native.Mathlib.Omega.{arith}
@@ -10,11 +10,10 @@ use Rattle.rules.specs.Audit.{atlasIn, Passes}
 use Rattle.rules.specs.Calls.{freeSpace, list}
 use Rattle.finding.proofs.Listing.{rowsListed}
 use Rattle.bridge.proofs.Answers.{occupied-is, list-is}
-use Rattle.atlas.specs.Promises.{Judged, fails, passes, Unchanged, TellsFreeSpace}
+use Rattle.atlas.specs.Promises.{Judged, fails, passes, TellsFreeSpace}
 use Rattle.atlas.specs.declared.answers.Area.{Area}
 use Rattle.atlas.specs.declared.answers.Area.the-variants as area
 use Rattle.lines.specs.Answer.{textOf}
-use Rattle.lines.specs.declared.answer.Answer.{Answer}
 use Rattle.lines.specs.declared.answer.Answer.the-variants as answer
 use Rattle.lines.specs.declared.command.Command.{Command}
 use Rattle.script.specs.Listing.{linesOf, listText}

@@ -3,7 +3,6 @@
 use Prim.Native.Nat.{ℕ}
 use mathlib.Core.Path.{_≡_}
 use mathlib.Core.List.{List}
-use lib.IntN.{ℤ}
 use Rattle.rows.specs.declared.header.Header.{Header}
 use Rattle.rules.specs.Atlas.{occupied}
 use Rattle.rules.specs.Audit.{atlasIn, Passes}

@@ -4,19 +4,14 @@ use mathlib.Core.Path.{_≡_, sym, ap, _∙_}
 use mathlib.Core.List.{List}
 use Rattle.rows.specs.declared.header.Header.{Header}
 use Rattle.rules.specs.Audit.{Passes}
-use Rattle.atlas.specs.Promises.{Judged, fails, passes, Unchanged, LooksUp}
-use Rattle.atlas.specs.declared.answers.Created.{Created}
-use Rattle.atlas.specs.declared.answers.Allocated.{Allocated}
-use Rattle.atlas.specs.declared.answers.Replied.{Replied}
-use Rattle.atlas.specs.declared.answers.Grant.{Grant}
+use Rattle.atlas.specs.Promises.{Judged, fails, passes, LooksUp}
 use Rattle.atlas.proofs.Outcomes.{one-answer, one-create, one-allocate, one-release, one-clear}
 use Rattle.lines.specs.Answer.{textOf}
 use Rattle.lines.specs.declared.answer.Answer.{Answer}
 use Rattle.lines.specs.declared.command.Command.{Command}
 use Rattle.lines.specs.declared.command.Command.the-variants as command
-use Rattle.script.specs.Answers.{created, granted, replied}
 use Rattle.script.specs.Ids.{idOf}
-use Rattle.script.specs.Step.{Tells, Calls, Says, NoSuchId, ReleasesId, LooksUpId, OnId, Does}
+use Rattle.script.specs.Step.{Tells, Calls, ReleasesId, LooksUpId, OnId, Does}
 use Rattle.script.specs.declared.ids.Id.{Id}
 use Rattle.script.specs.declared.ids.Id.the-variants as id
 

@@ -2,9 +2,7 @@
 use mathlib.Core.Path.{_≡_, refl}
 use mathlib.Core.Bool.{Bool, true, false, not, false≢true}
 use mathlib.Core.List.{List, [], _∷_}
-use lib.Dec.{eqb}
 use Rattle.rules.specs.Atlas.{Item, isEmpty}
-use Rattle.rules.specs.Lies.{flag}
 
 -- an empty shelf is one free item
 pub lone-item : (is : List Item) → isEmpty is ≡ true → (i : Item) × (is ≡ i ∷ []) × (i .live ≡ false)

@@ -26,7 +26,7 @@ use Rattle.rows.specs.declared.item.ItemRow.{ItemRow}
 use Rattle.rows.specs.declared.shelf.ShelfRow.{ShelfRow}
 use Rattle.rules.specs.Atlas.{Item, Shelf, Freed, Pool, Atlas, isEmpty, liveArea, occupied}
 use Rattle.rules.specs.Grant.{newRow, newGeneration, taken, shelfTaken, itemTaken, upperPart, lowerPart, rowsLeft}
-use Rattle.rules.specs.Lies.{shelf, item, free, freedShelf, freedItem, Holds, headerOf, Lies, roomIn}
+use Rattle.rules.specs.Lies.{shelf, free, freedShelf, freedItem, Holds, headerOf, Lies, roomIn}
 use Rattle.rules.specs.Keeps.{shelfRows, itemRows, allItemRows, freedRows, FreeListed, Shared, Sound}
 use Rattle.steps.specs.Wrap.{plus16-is, minus16-is}
 use Rattle.steps.specs.State.{State, state}

@@ -8,8 +8,6 @@ use lib.Dec.{ltb}
 use lib.ListN.{length}
 use Rattle.numbers.specs.Pick.{pick}
 use Rattle.numbers.specs.Index.{noRow, noItem, noShelf}
-use Rattle.numbers.specs.declared.index.ItemIndex.{ItemIndex}
-use Rattle.numbers.specs.declared.index.ShelfIndex.{ShelfIndex}
 use Rattle.numbers.specs.declared.limits.Limits.{Limits}
 use Rattle.rows.specs.Row.{Shape, put, length-put}
 use Rattle.rows.specs.Item.{items, withGeneration}

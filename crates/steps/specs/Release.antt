@@ -13,8 +13,6 @@ use Rattle.rows.specs.Item.{itemAt, changeItem}
 use Rattle.rows.specs.Shelf.{shelfAt, changeShelf}
 use Rattle.rows.specs.Pool.{itemFreed}
 use Rattle.rows.specs.declared.header.Header.{Header}
-use Rattle.rows.specs.declared.item.ItemRow.{ItemRow}
-use Rattle.rows.specs.declared.shelf.ShelfRow.{ShelfRow}
 use Rattle.steps.specs.declared.release.Loosened.{Loosened}
 use Rattle.steps.specs.Wrap.{minus32}
 use Rattle.steps.specs.State.{State}

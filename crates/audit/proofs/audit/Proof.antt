@@ -1,5 +1,4 @@
 -- `audit`: the rules one after another, and what follows for each verdict. Assumes nothing.
-use native.Mathlib.Omega.{arith}
 use borrow.Author.Tests.{not-false}
 use Rattle.numbers.specs.Decides.{denied, granted}
 use Rattle.audit.proofs.Exactness.{fails-1, fails-2, fails-3, fails-5, all-hold}

@@ -1,7 +1,5 @@
 -- `header_right`: the capacities, then the limits. Assumes nothing.
-use mathlib.Core.Path.{_≡_, sym, _∙_}
 use native.Mathlib.Omega.{arith}
-use borrow.Author.Needs.{needs}
 use Rattle.rules.specs.Audit.{limitsOf}
 use Rattle.numbers.specs.Decides.{refuted}
 use Rattle.audit.proofs.WithinLimits.{within-decides}

@@ -1,7 +1,6 @@
 -- `passes_for_clear`: rule 1, then a row for each column in each table. Assumes nothing.
-use mathlib.Core.Path.{_≡_, sym, _∙_}
+use mathlib.Core.Path.{_∙_}
 use native.Mathlib.Omega.{arith}
-use borrow.Author.Needs.{needs}
 use borrow.Author.Tests.{leb-true, le-leb}
 use Rattle.numbers.specs.Decides.{refuted, denied, granted}
 use Rattle.audit.proofs.ShelfTurns.{columns-are}

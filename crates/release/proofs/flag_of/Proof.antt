@@ -1,4 +1,3 @@
-use borrow.Author.Needs.{needs}
 use Rattle.steps.specs.Release.{flagOf}
 use Rattle.release.proofs.flag_of.Statement.{statement}
 use Rattle.release.proofs.flag_of.Tie as tie

@@ -1,5 +1,5 @@
 -- `grant_asked`: 6, then what the place held gives. Assumes nothing.
-use mathlib.Core.Path.{refl, sym, _∙_}
+use mathlib.Core.Path.{sym, _∙_}
 use borrow.Author.Needs.{needs}
 use Rattle.atlas.proofs.Grants.{asked-none, asked-good, asked-bad}
 use Rattle.atlas.proofs.allocate.grant_asked.Statement.{statement}

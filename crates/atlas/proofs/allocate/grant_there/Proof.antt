@@ -1,8 +1,7 @@
 -- `grant_there`: 7, then the grant. Assumes nothing.
-use mathlib.Core.Path.{refl, sym, _∙_}
+use mathlib.Core.Path.{sym, _∙_}
 use borrow.Author.Needs.{needs}
 use borrow.Author.Tests.{not-true, not-false}
-use Rattle.atlas.specs.Placing.{GrantsThere}
 use Rattle.atlas.proofs.Grants.{refused-there, granted-there}
 use Rattle.atlas.proofs.allocate.grant_there.Statement.{statement}
 use Rattle.atlas.proofs.allocate.grant_there.Tie as tie

@@ -1,6 +1,5 @@
 -- `list`: 3, then 10, then the live items by rising row. Assumes nothing.
 use mathlib.Core.Path.{refl}
-use native.Mathlib.Omega.{arith}
 use borrow.Author.Needs.{needs}
 use Rattle.atlas.specs.Promises.{Lists, ListedAs}
 use Rattle.atlas.proofs.Cases.{judged-3, judged}

@@ -2,7 +2,6 @@
 use Prim.Native.Nat.{_≤_, _-_}
 use mathlib.Core.Path.{_≡_}
 use native.Mathlib.Omega.{arith}
-use borrow.Author.Needs.{needs}
 use Rattle.atlas.proofs.Listed.{length-written, row-most, Listed, none-listed, one-listed}
 use Rattle.atlas.proofs.list.list_rows.Statement.{statement}
 use Rattle.atlas.proofs.list.list_rows.Tie as tie

@@ -1,8 +1,7 @@
 -- `aligned`: 1 divides every width, and 0 none but 0. Assumes nothing.
-use mathlib.Core.Path.{_≡_, refl, sym, _∙_}
+use mathlib.Core.Path.{refl, sym, _∙_}
 use native.Mathlib.Nat.{mod-zero, mod-one}
 use native.Mathlib.Omega.{arith}
-use borrow.Author.Needs.{needs}
 use borrow.Author.Tests.{eqb-true, eq-eqb}
 use Rattle.audit.proofs.items.aligned.Statement.{statement}
 use Rattle.audit.proofs.items.aligned.Tie as tie

@@ -1,5 +1,4 @@
 -- `all_items` decides rule 3 and gives the totals. Assumes nothing.
-use mathlib.Core.Path.{_≡_, refl, sym, _∙_}
 use native.Mathlib.Omega.{arith}
 use Rattle.numbers.specs.Decides.{never, refuted}
 use Rattle.audit.proofs.TotalTurns.{AtTotals, totals-begin, wrong-items, area-small, past-items, totals-ended, totals-out}

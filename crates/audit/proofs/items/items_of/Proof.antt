@@ -1,6 +1,5 @@
 -- `items_of` decides rule 3 for one shelf, and counts its items. Assumes nothing.
 use Prim.Native.Nat.{_+_, _*_, _-_, _≤_}
-use mathlib.Core.Path.{_≡_, refl, sym, _∙_}
 use native.Mathlib.Omega.{arith}
 use borrow.Author.Tests.{eqb-true, eq-eqb}
 use lib.Dec.{eqb}

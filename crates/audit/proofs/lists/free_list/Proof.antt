@@ -1,9 +1,9 @@
 -- `free_list` decides whether a free list is right, and counts it. Assumes nothing.
-use Prim.Native.Nat.{_+_, _-_, _≤_}
-use mathlib.Core.Path.{_≡_, refl}
+use Prim.Native.Nat.{_-_}
+use mathlib.Core.Path.{refl}
 use native.Mathlib.Omega.{arith}
 use Rattle.numbers.specs.Decides.{never, refuted, denied, granted}
-use Rattle.audit.proofs.Turns.{no-fuel, outside, ended, unended, last-ended}
+use Rattle.audit.proofs.Turns.{no-fuel, outside, unended, last-ended}
 use Rattle.audit.proofs.ListTurns.{AtFree, free-begins, wrong-free, past-free}
 use Rattle.audit.proofs.lists.free_list.Statement.{statement}
 use Rattle.audit.proofs.lists.free_list.Tie as tie

@@ -1,5 +1,4 @@
 -- `free_lists` decides whether all the free lists are right, and counts them. Assumes nothing.
-use mathlib.Core.Path.{_≡_, refl, sym, _∙_}
 use native.Mathlib.Omega.{arith}
 use Rattle.numbers.specs.Decides.{never, refuted}
 use Rattle.audit.proofs.TotalTurns.{AtLists, lists-begin, wrong-list, past-list, lists-ended, lists-out}

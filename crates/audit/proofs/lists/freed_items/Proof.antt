@@ -1,9 +1,9 @@
 -- `freed_items` decides whether the freed item rows are right, and counts them. Assumes nothing.
-use Prim.Native.Nat.{_+_, _-_, _≤_}
-use mathlib.Core.Path.{_≡_, refl}
+use Prim.Native.Nat.{_-_}
+use mathlib.Core.Path.{refl}
 use native.Mathlib.Omega.{arith}
 use Rattle.numbers.specs.Decides.{never, refuted, denied, granted}
-use Rattle.audit.proofs.Turns.{no-fuel, outside, ended, unended, last-ended}
+use Rattle.audit.proofs.Turns.{no-fuel, outside, unended, last-ended}
 use Rattle.audit.proofs.ListTurns.{AtFreedItem, freed-items-begin, wrong-freed-item, past-freed-item}
 use Rattle.audit.proofs.lists.freed_items.Statement.{statement}
 use Rattle.audit.proofs.lists.freed_items.Tie as tie
@@ -27,12 +27,12 @@ returns-2 c = record { exact = refuted (outside (c .before .before .before .befo
 get-item-requires : tie.Need-get-item-requires Inv-loop μ-loop
 get-item-requires c κs = tt
 
-freed-item-requires : tie.Need-freed-item-requires Inv-loop μ-loop
-freed-item-requires c κs = tt
+is-freed-item-requires : tie.Need-is-freed-item-requires Inv-loop μ-loop
+is-freed-item-requires c κs = tt
 
 returns-3 : tie.Need-returns-3 Inv-loop μ-loop
 returns-3 c =
-    record { exact = refuted (wrong-freed-item (c .before .before .before .before .before .before .before .loop .inv) (c .before .before .before .before .before .before .loop-test .taken) _ (c .before .before .get-item .ensures) (denied (c .before .freed-item .ensures) (c .if3 .taken))); count = never }
+    record { exact = refuted (wrong-freed-item (c .before .before .before .before .before .before .before .loop .inv) (c .before .before .before .before .before .before .loop-test .taken) _ (c .before .before .get-item .ensures) (denied (c .before .is-freed-item .ensures) (c .if3 .taken))); count = never }
 
 sub-fuel : tie.Need-sub-fuel Inv-loop μ-loop
 sub-fuel c = omega arith
@@ -42,7 +42,7 @@ loop-less c = omega arith
 
 loop-again : tie.Need-loop-again Inv-loop μ-loop
 loop-again c =
-    past-freed-item (c .before .before .before .before .before .before .before .loop .inv) (c .before .before .before .before .before .before .loop-test .taken) _ (c .before .before .get-item .ensures) (omega arith) (omega arith) (granted (c .before .freed-item .ensures) (c .if3 .left))
+    past-freed-item (c .before .before .before .before .before .before .before .loop .inv) (c .before .before .before .before .before .before .loop-test .taken) _ (c .before .before .get-item .ensures) (omega arith) (omega arith) (granted (c .before .is-freed-item .ensures) (c .if3 .left))
 
 sub-t9 : tie.Need-sub-t9 Inv-loop μ-loop
 sub-t9 c = omega (arith, last-ended (c .before .before .loop .inv .count) (c .before .loop-test .left))
@@ -67,7 +67,7 @@ freed-items-spec =
     returns
     returns-2
     get-item-requires
-    freed-item-requires
+    is-freed-item-requires
     returns-3
     sub-fuel
     loop-less

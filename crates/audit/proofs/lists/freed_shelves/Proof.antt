@@ -1,9 +1,9 @@
 -- `freed_shelves` decides whether the freed shelf rows are right, and counts them. Assumes nothing.
-use Prim.Native.Nat.{_+_, _-_, _≤_}
-use mathlib.Core.Path.{_≡_, refl}
+use Prim.Native.Nat.{_-_}
+use mathlib.Core.Path.{refl}
 use native.Mathlib.Omega.{arith}
 use Rattle.numbers.specs.Decides.{never, refuted, denied, granted}
-use Rattle.audit.proofs.Turns.{no-fuel, outside, ended, unended, last-ended}
+use Rattle.audit.proofs.Turns.{no-fuel, outside, unended, last-ended}
 use Rattle.audit.proofs.ListTurns.{AtFreedShelf, freed-shelves-begin, wrong-freed-shelf, past-freed-shelf}
 use Rattle.audit.proofs.lists.freed_shelves.Statement.{statement}
 use Rattle.audit.proofs.lists.freed_shelves.Tie as tie
@@ -27,12 +27,12 @@ returns-2 c = record { exact = refuted (outside (c .before .before .before .befo
 get-shelf-requires : tie.Need-get-shelf-requires Inv-loop μ-loop
 get-shelf-requires c κs = tt
 
-freed-shelf-requires : tie.Need-freed-shelf-requires Inv-loop μ-loop
-freed-shelf-requires c κs = tt
+is-freed-shelf-requires : tie.Need-is-freed-shelf-requires Inv-loop μ-loop
+is-freed-shelf-requires c κs = tt
 
 returns-3 : tie.Need-returns-3 Inv-loop μ-loop
 returns-3 c =
-    record { exact = refuted (wrong-freed-shelf (c .before .before .before .before .before .before .before .loop .inv) (c .before .before .before .before .before .before .loop-test .taken) _ (c .before .before .get-shelf .ensures) (denied (c .before .freed-shelf .ensures) (c .if3 .taken))); count = never }
+    record { exact = refuted (wrong-freed-shelf (c .before .before .before .before .before .before .before .loop .inv) (c .before .before .before .before .before .before .loop-test .taken) _ (c .before .before .get-shelf .ensures) (denied (c .before .is-freed-shelf .ensures) (c .if3 .taken))); count = never }
 
 sub-fuel : tie.Need-sub-fuel Inv-loop μ-loop
 sub-fuel c = omega arith
@@ -42,7 +42,7 @@ loop-less c = omega arith
 
 loop-again : tie.Need-loop-again Inv-loop μ-loop
 loop-again c =
-    past-freed-shelf (c .before .before .before .before .before .before .before .loop .inv) (c .before .before .before .before .before .before .loop-test .taken) _ (c .before .before .get-shelf .ensures) (omega arith) (omega arith) (granted (c .before .freed-shelf .ensures) (c .if3 .left))
+    past-freed-shelf (c .before .before .before .before .before .before .before .loop .inv) (c .before .before .before .before .before .before .loop-test .taken) _ (c .before .before .get-shelf .ensures) (omega arith) (omega arith) (granted (c .before .is-freed-shelf .ensures) (c .if3 .left))
 
 sub-t9 : tie.Need-sub-t9 Inv-loop μ-loop
 sub-t9 c = omega (arith, last-ended (c .before .before .loop .inv .count) (c .before .loop-test .left))
@@ -67,7 +67,7 @@ freed-shelves-spec =
     returns
     returns-2
     get-shelf-requires
-    freed-shelf-requires
+    is-freed-shelf-requires
     returns-3
     sub-fuel
     loop-less

@@ -1,5 +1,4 @@
 -- `empty_flag`: one answer for each way out. Assumes nothing.
-use native.Mathlib.Omega.{arith}
 use Rattle.audit.proofs.Rows.{flag-unused, flag-live, flag-followed, flag-alone}
 use Rattle.audit.proofs.shelves.empty_flag.Statement.{statement}
 use Rattle.audit.proofs.shelves.empty_flag.Tie as tie

@@ -1,5 +1,5 @@
 -- `shelf_right`: each test is one part of what is asked. Assumes nothing.
-use mathlib.Core.Path.{_≡_, refl, sym, _∙_}
+use mathlib.Core.Path.{refl, sym, _∙_}
 use native.Mathlib.Omega.{arith}
 use borrow.Author.Needs.{needs}
 use Rattle.audit.proofs.Rows.{apart-if, apart-as, product-fits}

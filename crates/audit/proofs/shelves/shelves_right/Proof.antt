@@ -1,9 +1,8 @@
 -- `shelves_right` decides rule 2: the invariant says that it holds exactly when the rest of the chain is right. Assumes nothing.
 use Prim.Native.Nat.{_+_, _≤_}
-use mathlib.Core.Path.{_≡_, sym, _∙_}
+use mathlib.Core.Path.{sym, _∙_}
 use native.Mathlib.Omega.{arith}
 use borrow.Author.Tests.{eqb-true, eq-eqb}
-use Rattle.rules.specs.Audit.{ShelfRight}
 use Rattle.numbers.specs.Decides.{refuted, denied, granted}
 use Rattle.audit.proofs.Turns.{no-fuel, outside, ended, unended}
 use Rattle.audit.proofs.ShelfTurns.{AtShelf, at-top, wrong-shelf, next-column, same-column, columns-are}

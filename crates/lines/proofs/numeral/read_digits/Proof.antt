@@ -1,8 +1,8 @@
-use Prim.Native.Nat.{ℕ, _+_, _*_, _-_, _≤_, _<_}
+use Prim.Native.Nat.{_+_, _*_, _-_, _≤_, _<_}
 use native.Mathlib.Omega.{arith}
 use borrow.Author.Needs.{needs}
 use mathlib.Core.Path.{_≡_, refl, sym, ap, _∙_}
-use mathlib.Core.Bool.{true, false}
+use mathlib.Core.Bool.{false}
 use lib.ListN.{length, drop, getD}
 use Rattle.lines.specs.Numeral.{zeroFirst, allDigits, value}
 use Rattle.lines.proofs.Numerals.{none-empty, none-zero, none-other, none-large, some-worth, digits-step, digits-stop, value-step, value-grows, digit, low, high, end-digits, end-value}

@@ -1,11 +1,10 @@
 use Prim.Native.Nat.{_+_, _-_, _/_, _%_, _≤_, _<_}
 use native.Mathlib.Omega.{arith}
-use mathlib.Core.Path.{_≡_, refl, sym, ap, _∙_}
+use mathlib.Core.Path.{_≡_, refl, sym, _∙_}
 use mathlib.Core.List.{append-nil}
 use lib.ListN.{length, drop, take, set, length-set, length-drop}
 use lib.Seq.{take-all}
 use borrow.Author.Needs.{needs}
-use Rattle.lines.specs.Put.{Puts, put-length}
 use Rattle.lines.specs.Text.{decimal}
 use Rattle.lines.proofs.Digits.{Found, found-more, found-all, ten, some, more-length}
 use Rattle.lines.proofs.text.put_number.Statement.{statement}

@@ -1,7 +1,6 @@
-use mathlib.Core.Path.{_≡_, refl, sym, ap, _∙_}
+use mathlib.Core.Path.{ap}
 use borrow.Author.Needs.{needs}
 use Rattle.lines.specs.Answer.{textOf}
-use Rattle.script.specs.Step.{Does}
 use Rattle.script.proofs.calls.release_id.Statement.{statement}
 use Rattle.script.proofs.calls.release_id.Tie as tie
 

@@ -1,4 +1,4 @@
-use mathlib.Core.Path.{_≡_, refl, sym, ap, subst, _∙_}
+use mathlib.Core.Path.{refl}
 use borrow.Author.Needs.{needs}
 use Rattle.numbers.specs.Decides.{denied, granted}
 use Rattle.atlas.specs.Promises.{fails, passes}

@@ -1,4 +1,4 @@
-use mathlib.Core.Path.{_≡_, refl, sym, ap, subst, _∙_}
+use mathlib.Core.Path.{sym, ap, _∙_}
 use borrow.Author.Needs.{needs}
 use Rattle.rows.specs.declared.item.ItemRow.{ItemRow}
 use Rattle.script.proofs.Rows.{listed-no-row, listed-row}

@@ -1,7 +1,6 @@
-use mathlib.Core.Path.{_≡_, refl, sym, ap, subst, _∙_}
+use mathlib.Core.Path.{sym, _∙_}
 use mir.Facts.{toZ-ofZ}
 use borrow.Author.Needs.{needs}
-use Rattle.script.specs.Ids.{idOf}
 use Rattle.script.specs.Step.{Does}
 use Rattle.script.proofs.Told.{on-id, on-none}
 use Rattle.script.proofs.tell.look.Statement.{statement}

@@ -1,4 +1,4 @@
-use mathlib.Core.Path.{_≡_, refl, sym, ap, _∙_}
+use mathlib.Core.Path.{refl, ap}
 use borrow.Author.Needs.{needs}
 use Rattle.lines.specs.Answer.{textOf}
 use Rattle.script.proofs.tell.look_id.Statement.{statement}

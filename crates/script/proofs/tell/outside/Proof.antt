@@ -1,7 +1,5 @@
-use mathlib.Core.Path.{_≡_, refl, sym, ap, _∙_}
 use borrow.Author.Needs.{needs}
 use Rattle.numbers.specs.Decides.{failed}
-use Rattle.lines.specs.Answer.{textOf}
 use Rattle.atlas.specs.Promises.{fails, passes}
 use Rattle.script.proofs.Told.{told}
 use Rattle.script.proofs.tell.outside.Statement.{statement}

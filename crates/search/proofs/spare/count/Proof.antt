@@ -1,4 +1,3 @@
-use borrow.Author.Needs.{needs}
 use Rattle.steps.specs.Spare.{count}
 use Rattle.search.proofs.spare.count.Statement.{statement}
 use Rattle.search.proofs.spare.count.Tie as tie
