@@ -160,13 +160,13 @@ unfoldable pub itemRest : ItemRow → List ℕ
 itemRest v = itemNumbers (withItemNext (record { 0 = 0 }) (withGeneration 0 v))
 
 abbrev pub itemSum : ItemRow → ℕ
-itemSum v = v .x + v .width + v .shelf .0 + (v .prev .0 + v .«prev_unallocated» .0 + v .«next_unallocated» .0) + v .allocated
+itemSum v = v .x + v .width + v .shelf .0 + v .allocated + (v .prev .0 + v .«prev_unallocated» .0 + v .«next_unallocated» .0 + 0)
 
 unfoldable pub shelfRest : ShelfRow → List ℕ
 shelfRest v = shelfNumbers (withShelfNext (record { 0 = 0 }) v)
 
 abbrev pub shelfSum : ShelfRow → ℕ
-shelfSum v = v .x + v .y + v .height + (v .prev .0 + v .«first_item» .0 + v .«first_unallocated» .0) + v .«is_empty»
+shelfSum v = v .x + v .y + v .height + v .«is_empty» + (v .prev .0 + v .«first_item» .0 + v .«first_unallocated» .0 + 0)
 
 tests-sum : {A : Type 0} (r : List ℕ) (n : ℕ) → n ≡ total r → (total r ≡ 0 → A) → (A → total r ≡ 0) → Decides (eqb n 0) A
 tests-sum r n e to from = record { sound = λ t. to (sym e ∙ eqb-true n 0 t); complete = λ a. eq-eqb n 0 (e ∙ from a) }

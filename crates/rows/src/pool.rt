@@ -1,4 +1,5 @@
 // Rows of the two tables taken into use and given back. The header goes in and out by value.
+ghost use Prim.Native.Nat.{_+_, _≤_};
 ghost use mathlib.Core.Path.{_≡_};
 ghost use Rattle.rows.specs.Pool.{addItem, addedItem, removeItem, itemFreed, addShelf, addedShelf, removeShelf, removeShelfItem, shelfFreed, FreedItem, FreedShelf};
 ghost use Rattle.numbers.specs.Decides.{Decides};
@@ -94,20 +95,27 @@ pub fn remove_shelf(shelves: &mut [u16], items: &mut [u16], h: Header, idx: Shel
     header
 }
 
+// Four numbers together.
+fn sum(a: u16, b: u16, c: u16, d: u16) -> u32
+    ensures { λ r. ⌜ (r ≡ a + b + c + d) × (r ≤ 262140) ⌝ }
+{
+    a as u32 + b as u32 + c as u32 + d as u32
+}
+
 // Whether a row is as a freed one is left: zero but for next and generation. A sum is zero where each number is.
 pub fn is_freed_item(v: ItemRow) -> bool
     ensures { λ r. ⌜ Decides r (FreedItem v) ⌝ }
 {
-    let place = v.x as u32 + v.width as u32 + v.shelf.0 as u32;
-    let links = v.prev.0 as u32 + v.prev_unallocated.0 as u32 + v.next_unallocated.0 as u32;
-    place + links + v.allocated as u32 == 0
+    let place = sum(v.x, v.width, v.shelf.0, v.allocated);
+    let links = sum(v.prev.0, v.prev_unallocated.0, v.next_unallocated.0, 0);
+    place + links == 0
 }
 
 // The same of a shelf, which has no generation.
 pub fn is_freed_shelf(v: ShelfRow) -> bool
     ensures { λ r. ⌜ Decides r (FreedShelf v) ⌝ }
 {
-    let place = v.x as u32 + v.y as u32 + v.height as u32;
-    let links = v.prev.0 as u32 + v.first_item.0 as u32 + v.first_unallocated.0 as u32;
-    place + links + v.is_empty as u32 == 0
+    let place = sum(v.x, v.y, v.height, v.is_empty);
+    let links = sum(v.prev.0, v.first_item.0, v.first_unallocated.0, 0);
+    place + links == 0
 }

@@ -1,4 +1,5 @@
 use borrow.Author.Needs.{needs}
+use native.Mathlib.Omega.{arith}
 use Rattle.rows.specs.PoolLaws.{freed-item}
 use Rattle.rows.proofs.pool.is_freed_item.Statement.{statement}
 use Rattle.rows.proofs.pool.is_freed_item.Tie as tie
@@ -7,17 +8,7 @@ pub is-freed-item-spec : {M : Type 1} → statement M
 is-freed-item-spec =
     tie.close
     (tie.spec
-    (λ c. search needs)
-    (λ c. search needs)
-    (λ c. search needs)
-    (λ c. search needs)
-    (λ c. search needs)
-    (λ c. search needs)
-    (λ c. search needs)
-    (λ c. search needs)
-    (λ c. search needs)
-    (λ c. search needs)
-    (λ c. search needs)
-    (λ c. search needs)
-    (λ c. search needs)
-    (λ c. freed-item _))
+    (λ c κs. search needs)
+    (λ c κs. search needs)
+    (λ c. omega arith)
+    (λ c. rw (c .before .sum .ensures .0, c .sum2 .ensures .0) (freed-item _)))

@@ -1,4 +1,5 @@
 use borrow.Author.Needs.{needs}
+use native.Mathlib.Omega.{arith}
 use Rattle.rows.specs.PoolLaws.{freed-shelf}
 use Rattle.rows.proofs.pool.is_freed_shelf.Statement.{statement}
 use Rattle.rows.proofs.pool.is_freed_shelf.Tie as tie
@@ -7,17 +8,7 @@ pub is-freed-shelf-spec : {M : Type 1} → statement M
 is-freed-shelf-spec =
     tie.close
     (tie.spec
-    (λ c. search needs)
-    (λ c. search needs)
-    (λ c. search needs)
-    (λ c. search needs)
-    (λ c. search needs)
-    (λ c. search needs)
-    (λ c. search needs)
-    (λ c. search needs)
-    (λ c. search needs)
-    (λ c. search needs)
-    (λ c. search needs)
-    (λ c. search needs)
-    (λ c. search needs)
-    (λ c. freed-shelf _))
+    (λ c κs. search needs)
+    (λ c κs. search needs)
+    (λ c. omega arith)
+    (λ c. rw (c .before .sum .ensures .0, c .sum2 .ensures .0) (freed-shelf _)))
