@@ -21,10 +21,10 @@ use Rattle.steps.specs.Search.{search}
 use Rattle.steps.specs.Spare.{hasRows}
 use Rattle.steps.specs.Grant.{grantAt, grantedAt}
 use Rattle.steps.specs.Release.{releaseAt}
-use Rattle.steps.specs.declared.grant.Granted.{Granted}
-use Rattle.steps.specs.declared.search.Place.{Place}
-use Rattle.steps.specs.declared.search.Held.{Held}
-use Rattle.steps.specs.declared.search.Held.the-variants.{Nothing, Good, Bad}
+use Rattle.steps.specs.declared.grants.Granted.{Granted}
+use Rattle.steps.specs.declared.places.Place.{Place}
+use Rattle.steps.specs.declared.places.Held.{Held}
+use Rattle.steps.specs.declared.places.Held.the-variants.{Nothing, Good, Bad}
 use Rattle.bridge.proofs.Calls.{asked-within, grant-nothing, grant-few, grant-placed, release-none, release-done}
 use Rattle.atlas.specs.Answers.{releasing}
 use Rattle.atlas.specs.Promises.{AllocatedAs, RepliedAs}

@@ -9,9 +9,9 @@ use Rattle.steps.specs.State.{state, Are}
 use Rattle.steps.specs.Search.{search}
 use Rattle.steps.specs.Spare.{hasRows}
 use Rattle.steps.specs.Grant.{grantAt, grantedAt}
-use Rattle.steps.specs.declared.search.Place.{Place}
-use Rattle.steps.specs.declared.search.Held.{Held}
-use Rattle.steps.specs.declared.search.Held.the-variants.{Nothing, Good, Bad}
+use Rattle.steps.specs.declared.places.Place.{Place}
+use Rattle.steps.specs.declared.places.Held.{Held}
+use Rattle.steps.specs.declared.places.Held.the-variants.{Nothing, Good, Bad}
 use Rattle.atlas.specs.Promises.{Unchanged}
 use Rattle.atlas.specs.declared.answers.Grant.the-variants as grant
 use Rattle.atlas.specs.declared.answers.Allocated.{Allocated}

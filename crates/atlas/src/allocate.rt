@@ -13,8 +13,8 @@ use numbers::request::Request;
 use rows::header::Header;
 use search::spare;
 use search::walk;
-use steps::search::Held;
-use steps::search::Place;
+use steps::places::Held;
+use steps::places::Place;
 
 fn refused(h: Header, number: u16) -> Allocated
     ensures { λ r. ⌜ r ≡ record { answer = grant.Refused number; header = h } ⌝ }

@@ -35,8 +35,8 @@ use Rattle.steps.specs.Spare.{hasRows}
 use Rattle.steps.specs.Live.{atRow, isLive, liveAt, isVacant}
 use Rattle.steps.specs.Grant.{grantAt, grantedAt}
 use Rattle.steps.specs.Release.{releaseAt}
-use Rattle.steps.specs.declared.search.Place.{Place}
-use Rattle.steps.specs.declared.search.Held.the-variants.{Nothing, Good, Bad}
+use Rattle.steps.specs.declared.places.Place.{Place}
+use Rattle.steps.specs.declared.places.Held.the-variants.{Nothing, Good, Bad}
 use Rattle.finding.proofs.Listing.{rowsListed}
 use Rattle.bridge.specs.After.{Becomes}
 use Rattle.bridge.proofs.Outcome as outcome

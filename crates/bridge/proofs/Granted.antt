@@ -29,7 +29,7 @@ use Rattle.steps.specs.Live.{atRow, liveAt}
 use Rattle.steps.specs.ShelfEdits.{splitShelf}
 use Rattle.steps.specs.Spare.{hasRows, splitsShelf as splitsRow}
 use Rattle.steps.specs.Grant.{fitShelf, takeItem, grantAt, grantedAt}
-use Rattle.steps.specs.declared.search.Place.{Place}
+use Rattle.steps.specs.declared.places.Place.{Place}
 use Rattle.finding.proofs.Narrow.{shaped-narrow, shelf-narrow}
 use Rattle.finding.proofs.Looking.{told}
 use Rattle.opening.proofs.Standing.{Stands, widths, NarrowShelf, onRow}

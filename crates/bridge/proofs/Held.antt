@@ -23,9 +23,9 @@ use Rattle.keeps.proofs.Finding.{FoundItem, find-item}
 use Rattle.steps.specs.Search as table
 use Rattle.steps.specs.Spare.{hasRows}
 use Rattle.steps.specs.Live.{atRow}
-use Rattle.steps.specs.declared.search.Place.{Place}
-use Rattle.steps.specs.declared.search.Held.{Held}
-use Rattle.steps.specs.declared.search.Held.the-variants.{Nothing, Good, Bad}
+use Rattle.steps.specs.declared.places.Place.{Place}
+use Rattle.steps.specs.declared.places.Held.{Held}
+use Rattle.steps.specs.declared.places.Held.the-variants.{Nothing, Good, Bad}
 use Rattle.finding.proofs.Walking.{held-rows}
 use Rattle.finding.proofs.Searching.{search-says}
 use Rattle.finding.proofs.RowsLeft.{rows-say}

@@ -28,8 +28,8 @@ use Rattle.rules.specs.Search as rule
 use Rattle.rules.specs.Lies.{item, free, shelf, Holds}
 use Rattle.rules.specs.Keeps.{itemRows}
 use Rattle.steps.specs.Search as table
-use Rattle.steps.specs.declared.search.Held.{Held}
-use Rattle.steps.specs.declared.search.Held.the-variants.{Nothing, Good, Bad}
+use Rattle.steps.specs.declared.places.Held.{Held}
+use Rattle.steps.specs.declared.places.Held.the-variants.{Nothing, Good, Bad}
 
 -- ---- the first item wide enough
 

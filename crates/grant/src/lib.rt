@@ -10,9 +10,9 @@ use rows::item;
 use rows::shelf;
 use search::live;
 use search::spare;
-use steps::grant::Granted;
+use steps::grants::Granted;
 use steps::item_edits;
-use steps::search::Place;
+use steps::places::Place;
 use steps::shelf_edits;
 use steps::wrap;
 

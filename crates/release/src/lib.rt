@@ -9,7 +9,7 @@ use rows::item;
 use rows::shelf;
 use search::live;
 use steps::item_edits;
-use steps::release::Loosened;
+use steps::releases::Loosened;
 use steps::shelf_edits;
 use steps::wrap;
 

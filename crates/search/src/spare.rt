@@ -9,7 +9,7 @@ use rows::item;
 use rows::item::ItemRow;
 use rows::shelf;
 use rows::shelf::ShelfRow;
-use steps::search::Place;
+use steps::places::Place;
 
 // The rows that were never used.
 fn unused(capacity: u16, used: u16) -> u32

@@ -9,8 +9,8 @@ use rows::header::Header;
 use rows::item;
 use rows::shelf;
 use rows::shelf::ShelfRow;
-use steps::search::Held;
-use steps::search::Place;
+use steps::places::Held;
+use steps::places::Place;
 
 // The first item of the free list from `first` on that is at least `width` wide, or none in `steps` steps.
 pub fn first_wide(items: &[u16], first: ItemIndex, width: u16, steps: u16) -> ItemIndex

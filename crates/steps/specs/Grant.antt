@@ -10,8 +10,8 @@ use Rattle.rows.specs.Item.{itemAt, changeItem}
 use Rattle.rows.specs.Shelf.{shelfAt, changeShelf}
 use Rattle.rows.specs.Pool.{newItem, itemTaken}
 use Rattle.rows.specs.declared.header.Header.{Header}
-use Rattle.steps.specs.declared.search.Place.{Place}
-use Rattle.steps.specs.declared.grant.Granted.{Granted}
+use Rattle.steps.specs.declared.places.Place.{Place}
+use Rattle.steps.specs.declared.grants.Granted.{Granted}
 use Rattle.steps.specs.Wrap.{plus32}
 use Rattle.steps.specs.State.{State}
 use Rattle.steps.specs.ItemEdits.{markLive, unlist, relist, splitItem, firstAfter}

@@ -13,7 +13,7 @@ use Rattle.rows.specs.Item.{itemAt, changeItem}
 use Rattle.rows.specs.Shelf.{shelfAt, changeShelf}
 use Rattle.rows.specs.Pool.{itemFreed}
 use Rattle.rows.specs.declared.header.Header.{Header}
-use Rattle.steps.specs.declared.release.Loosened.{Loosened}
+use Rattle.steps.specs.declared.releases.Loosened.{Loosened}
 use Rattle.steps.specs.Wrap.{minus32}
 use Rattle.steps.specs.State.{State}
 use Rattle.steps.specs.ItemEdits.{markFree, unlist, enlist, joinNext, firstAfter}

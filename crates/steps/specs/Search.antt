@@ -15,9 +15,9 @@ use Rattle.rows.specs.Item.{itemAt}
 use Rattle.rows.specs.Shelf.{shelfAt}
 use Rattle.rows.specs.declared.header.Header.{Header}
 use Rattle.rows.specs.declared.shelf.ShelfRow.{ShelfRow}
-use Rattle.steps.specs.declared.search.Place.{Place}
-use Rattle.steps.specs.declared.search.Held.{Held}
-use Rattle.steps.specs.declared.search.Held.the-variants.{Nothing, Good, Bad}
+use Rattle.steps.specs.declared.places.Place.{Place}
+use Rattle.steps.specs.declared.places.Held.{Held}
+use Rattle.steps.specs.declared.places.Held.the-variants.{Nothing, Good, Bad}
 
 -- ---- in a shelf
 

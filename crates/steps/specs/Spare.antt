@@ -14,7 +14,7 @@ use Rattle.rows.specs.Shelf.{shelfCapacity, shelfAt}
 use Rattle.rows.specs.declared.header.Header.{Header}
 use Rattle.rows.specs.declared.item.ItemRow.{ItemRow}
 use Rattle.rows.specs.declared.shelf.ShelfRow.{ShelfRow}
-use Rattle.steps.specs.declared.search.Place.{Place}
+use Rattle.steps.specs.declared.places.Place.{Place}
 use Rattle.steps.specs.Search.{shelfIsEmpty}
 
 -- the rows left of a table, counting one freed shelf row and two freed item rows at most: no place needs more

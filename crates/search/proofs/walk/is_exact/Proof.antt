@@ -1,6 +1,6 @@
 use borrow.Author.Needs.{needs}
 use mathlib.Core.Path.{_≡_}
-use Rattle.steps.specs.declared.search.Held.the-variants.{Good}
+use Rattle.steps.specs.declared.places.Held.the-variants.{Good}
 use Rattle.steps.specs.Search.{isExact}
 use Rattle.search.proofs.walk.is_exact.Statement.{statement}
 use Rattle.search.proofs.walk.is_exact.Tie as tie

@@ -1,7 +1,7 @@
 use borrow.Author.Needs.{needs}
 use mathlib.Core.Path.{_≡_}
 use borrow.Author.Tests.{lt-ltb, le-ltb}
-use Rattle.steps.specs.declared.search.Held.the-variants.{Nothing, Good, Bad}
+use Rattle.steps.specs.declared.places.Held.the-variants.{Nothing, Good, Bad}
 use Rattle.steps.specs.Search.{passedBy}
 use Rattle.search.proofs.walk.passed_by.Statement.{statement}
 use Rattle.search.proofs.walk.passed_by.Tie as tie
