@@ -1,15 +1,22 @@
 // Audits of sound, damaged and hostile tables: a line for each, with its verdict.
+mod fields;
 mod tables;
 
 use audit::Verdict;
+use fields::ItemField;
+use fields::ShelfField;
 use libc::STDOUT_FILENO;
 use numbers::index::ItemIndex;
 use numbers::index::ShelfIndex;
 use rows::header::Header;
-use tables::FRESH_ITEMS;
-use tables::FRESH_SHELVES;
+use tables::FULL;
 use tables::ITEMS;
 use tables::SHELVES;
+
+// Two rows of each table.
+const TWO_SHELVES: usize = 2 * rows::shelf::NUMBERS;
+
+const TWO_ITEMS: usize = 2 * rows::item::NUMBERS;
 
 fn told(v: Verdict) {
     match v {
@@ -31,43 +38,77 @@ fn told(v: Verdict) {
     }
 }
 
-fn run(name: &[u8], h: Header, shelves: &[u16], items: &[u16]) {
-    io::write_all(STDOUT_FILENO, name);
-    io::write_all(STDOUT_FILENO, b": ");
-    told(audit::audit(h, shelves, items));
+// The audit of the first numbers of two tables.
+fn audit_cut(
+    h: Header,
+    shelves: &[u16],
+    items: &[u16],
+    shelf_numbers: usize,
+    item_numbers: usize,
+) -> Verdict {
+    if shelf_numbers > shelves.len() {
+        return Verdict::Passes;
+    }
+    if item_numbers > items.len() {
+        return Verdict::Passes;
+    }
+    audit::audit(h, &shelves[0..shelf_numbers], &items[0..item_numbers])
 }
 
-// The atlas in use with one number of its shelf table replaced, or one of its item table, or with another header.
-fn shelf_cell(name: &[u8], at: usize, n: u16) {
-    if at >= 40 {
-        return;
-    }
-    let mut s = SHELVES;
-    s[at] = n;
-    let i = ITEMS;
+fn run_cut(
+    name: &[u8],
+    h: Header,
+    shelves: &[u16; SHELVES],
+    items: &[u16; ITEMS],
+    shelf_numbers: usize,
+    item_numbers: usize,
+) {
+    io::write_all(STDOUT_FILENO, name);
+    io::write_all(STDOUT_FILENO, b": ");
+    told(audit_cut(h, shelves, items, shelf_numbers, item_numbers));
+}
+
+fn run(name: &[u8], h: Header, shelves: &[u16; SHELVES], items: &[u16; ITEMS]) {
+    run_cut(name, h, shelves, items, SHELVES, ITEMS);
+}
+
+// The atlas in use with one field of a shelf row replaced, or of an item row, or with another header.
+fn shelf_cell(name: &[u8], at: u16, field: ShelfField, n: u16) {
+    let mut s = [0u16; SHELVES];
+    let mut i = [0u16; ITEMS];
+    tables::put_shelves(&mut s);
+    tables::put_items(&mut i);
+    tables::put_shelf(
+        &mut s,
+        at,
+        fields::shelf_with(tables::shelf_at(at), field, n),
+    );
     run(name, tables::header(), &s, &i);
 }
 
-fn item_cell(name: &[u8], at: usize, n: u16) {
-    if at >= 81 {
-        return;
-    }
-    let s = SHELVES;
-    let mut i = ITEMS;
-    i[at] = n;
+fn item_cell(name: &[u8], at: u16, field: ItemField, n: u16) {
+    let mut s = [0u16; SHELVES];
+    let mut i = [0u16; ITEMS];
+    tables::put_shelves(&mut s);
+    tables::put_items(&mut i);
+    tables::put_item(&mut i, at, fields::item_with(tables::item_at(at), field, n));
     run(name, tables::header(), &s, &i);
 }
 
 fn with_header(name: &[u8], h: Header) {
-    let s = SHELVES;
-    let i = ITEMS;
+    let mut s = [0u16; SHELVES];
+    let mut i = [0u16; ITEMS];
+    tables::put_shelves(&mut s);
+    tables::put_items(&mut i);
     run(name, h, &s, &i);
 }
 
 fn sound() {
-    let fs = FRESH_SHELVES;
-    let fi = FRESH_ITEMS;
-    run(b"a fresh atlas", tables::fresh_header(), &fs, &fi);
+    let mut s = [0u16; SHELVES];
+    let mut i = [0u16; ITEMS];
+    tables::put_fresh_shelves(&mut s);
+    tables::put_fresh_items(&mut i);
+    run(b"a fresh atlas", tables::fresh_header(), &s, &i);
     with_header(b"an atlas in use", tables::header());
 }
 
@@ -93,78 +134,186 @@ fn headers() {
     with_header(b"an alignment of 0", h);
 }
 
+// The atlas in use in tables that are cut off.
+fn cut(name: &[u8], h: Header, shelf_numbers: usize, item_numbers: usize) {
+    let mut s = [0u16; SHELVES];
+    let mut i = [0u16; ITEMS];
+    tables::put_shelves(&mut s);
+    tables::put_items(&mut i);
+    run_cut(name, h, &s, &i, shelf_numbers, item_numbers);
+}
+
 fn short_tables() {
-    let s = SHELVES;
-    let i = ITEMS;
-    run(
+    let used = tables::header();
+    cut(
         b"an item table one number too short",
-        tables::header(),
-        &s,
-        &i[0..80],
+        used,
+        SHELVES,
+        ITEMS - 1,
     );
-    run(
+    cut(
         b"a shelf table one number too short",
-        tables::header(),
-        &s[0..39],
-        &i,
+        used,
+        SHELVES - 1,
+        ITEMS,
     );
-    run(b"no tables", tables::header(), &s[0..0], &i[0..0]);
+    cut(b"no tables", used, 0, 0);
     let mut h = tables::fresh_header();
     h.used_items = 0;
     h.used_shelves = 0;
-    run(b"no used rows", h, &s, &i);
+    cut(b"no used rows", h, SHELVES, ITEMS);
 }
 
 fn shelf_chain() {
-    shelf_cell(b"a shelf whose next is 65534", 12, 65534);
-    shelf_cell(b"a shelf chain that runs in a circle", 12, 0);
-    shelf_cell(b"a shelf chain that runs into a freed row", 12, 4);
-    shelf_cell(b"a shelf chain that ends early", 20, 65535);
-    shelf_cell(b"a shelf with a wrong back link", 11, 2);
-    shelf_cell(b"a column at the wrong x", 8, 1020);
-    shelf_cell(b"a gap between shelves", 17, 33);
-    shelf_cell(b"a shelf of no depth", 18, 0);
-    shelf_cell(b"depths that pass 16 bits", 26, 65456);
-    shelf_cell(b"a wrong empty flag", 31, 0);
-    shelf_cell(b"an empty flag of 2", 7, 2);
+    shelf_cell(b"a shelf whose next is 65534", 1, ShelfField::Next, 65534);
+    shelf_cell(
+        b"a shelf chain that runs in a circle",
+        1,
+        ShelfField::Next,
+        0,
+    );
+    shelf_cell(
+        b"a shelf chain that runs into a freed row",
+        1,
+        ShelfField::Next,
+        4,
+    );
+    shelf_cell(b"a shelf chain that ends early", 2, ShelfField::Next, 65535);
+    shelf_cell(b"a shelf with a wrong back link", 1, ShelfField::Prev, 2);
+    shelf_cell(b"a column at the wrong x", 1, ShelfField::X, 1020);
+    shelf_cell(b"a gap between shelves", 2, ShelfField::Y, 33);
+    shelf_cell(b"a shelf of no depth", 2, ShelfField::Height, 0);
+    shelf_cell(b"depths that pass 16 bits", 3, ShelfField::Height, 65456);
+    shelf_cell(b"a wrong empty flag", 3, ShelfField::IsEmpty, 0);
+    shelf_cell(b"an empty flag of 2", 0, ShelfField::IsEmpty, 2);
 }
 
 fn item_chains() {
-    item_cell(b"an item whose next is 65534", 57, 65534);
-    item_cell(b"an item chain that runs in a circle", 57, 0);
-    item_cell(b"an item that is its own next", 57, 6);
-    item_cell(b"an item chain that runs into a freed row", 57, 7);
-    item_cell(b"an item with a wrong back link", 56, 0);
-    item_cell(b"an item that names another shelf", 60, 2);
-    item_cell(b"an item at the wrong x", 27, 24);
-    item_cell(b"an item of no width", 28, 0);
-    item_cell(b"an item wider than its shelf has room for", 55, 988);
-    item_cell(b"widths that pass 16 bits", 55, 65496);
-    item_cell(b"an allocated flag of 2", 34, 2);
-    item_cell(b"two free items that adjoin", 34, 0);
-    shelf_cell(b"two shelves that share an item", 29, 1);
-    shelf_cell(b"a first item of 65535", 21, 65535);
+    item_cell(b"an item whose next is 65534", 6, ItemField::Next, 65534);
+    item_cell(
+        b"an item chain that runs in a circle",
+        6,
+        ItemField::Next,
+        0,
+    );
+    item_cell(b"an item that is its own next", 6, ItemField::Next, 6);
+    item_cell(
+        b"an item chain that runs into a freed row",
+        6,
+        ItemField::Next,
+        7,
+    );
+    item_cell(b"an item with a wrong back link", 6, ItemField::Prev, 0);
+    item_cell(b"an item that names another shelf", 6, ItemField::Shelf, 2);
+    item_cell(b"an item at the wrong x", 3, ItemField::X, 24);
+    item_cell(b"an item of no width", 3, ItemField::Width, 0);
+    item_cell(
+        b"an item wider than its shelf has room for",
+        6,
+        ItemField::Width,
+        988,
+    );
+    item_cell(b"widths that pass 16 bits", 6, ItemField::Width, 65496);
+    item_cell(b"an allocated flag of 2", 3, ItemField::Allocated, 2);
+    item_cell(b"two free items that adjoin", 3, ItemField::Allocated, 0);
+    shelf_cell(
+        b"two shelves that share an item",
+        3,
+        ShelfField::FirstItem,
+        1,
+    );
+    shelf_cell(b"a first item of 65535", 2, ShelfField::FirstItem, 65535);
 }
 
 fn free_lists() {
-    item_cell(b"a free list whose next is 65534", 5, 65534);
-    item_cell(b"a free list that runs in a circle", 59, 0);
-    item_cell(b"a free list that runs into a freed row", 59, 7);
-    item_cell(b"a free list that names another shelf's item", 59, 5);
-    item_cell(b"a free list that lacks an item", 5, 65535);
-    item_cell(b"a free list with a wrong back link", 58, 65535);
-    shelf_cell(b"a free list that starts at a live item", 6, 3);
-    shelf_cell(b"a shelf with no free list for its free item", 22, 65535);
-    shelf_cell(b"a free list that starts at 65534", 6, 65534);
-    item_cell(b"a live item with a free link", 31, 6);
+    item_cell(
+        b"a free list whose next is 65534",
+        0,
+        ItemField::NextUnallocated,
+        65534,
+    );
+    item_cell(
+        b"a free list that runs in a circle",
+        6,
+        ItemField::NextUnallocated,
+        0,
+    );
+    item_cell(
+        b"a free list that runs into a freed row",
+        6,
+        ItemField::NextUnallocated,
+        7,
+    );
+    item_cell(
+        b"a free list that names another shelf's item",
+        6,
+        ItemField::NextUnallocated,
+        5,
+    );
+    item_cell(
+        b"a free list that lacks an item",
+        0,
+        ItemField::NextUnallocated,
+        65535,
+    );
+    item_cell(
+        b"a free list with a wrong back link",
+        6,
+        ItemField::PrevUnallocated,
+        65535,
+    );
+    shelf_cell(
+        b"a free list that starts at a live item",
+        0,
+        ShelfField::FirstUnallocated,
+        3,
+    );
+    shelf_cell(
+        b"a shelf with no free list for its free item",
+        2,
+        ShelfField::FirstUnallocated,
+        65535,
+    );
+    shelf_cell(
+        b"a free list that starts at 65534",
+        0,
+        ShelfField::FirstUnallocated,
+        65534,
+    );
+    item_cell(
+        b"a live item with a free link",
+        3,
+        ItemField::PrevUnallocated,
+        6,
+    );
 }
 
 fn freed_rows() {
-    item_cell(b"a freed chain whose next is 65534", 75, 65534);
-    item_cell(b"a freed chain that runs in a circle", 66, 8);
-    item_cell(b"a freed chain that runs into an item", 66, 0);
-    item_cell(b"a freed item row that is not zero", 64, 4);
-    shelf_cell(b"a freed shelf row that is not zero", 39, 1);
+    item_cell(
+        b"a freed chain whose next is 65534",
+        8,
+        ItemField::Next,
+        65534,
+    );
+    item_cell(
+        b"a freed chain that runs in a circle",
+        7,
+        ItemField::Next,
+        8,
+    );
+    item_cell(
+        b"a freed chain that runs into an item",
+        7,
+        ItemField::Next,
+        0,
+    );
+    item_cell(b"a freed item row that is not zero", 7, ItemField::Width, 4);
+    shelf_cell(
+        b"a freed shelf row that is not zero",
+        4,
+        ShelfField::IsEmpty,
+        1,
+    );
     let mut h = tables::header();
     let earlier = ItemIndex(7);
     h.free_items = earlier;
@@ -181,16 +330,20 @@ fn freed_rows() {
     with_header(b"an occupied total right in 16 bits only", h);
 }
 
+fn run_full(name: &[u8], h: Header, shelves: &[u16; SHELVES], items: &[u16; FULL]) {
+    io::write_all(STDOUT_FILENO, name);
+    io::write_all(STDOUT_FILENO, b": ");
+    told(audit::audit(h, shelves, items));
+}
+
 // All 65535 rows of a table in use, two of them by a fresh atlas.
 fn full_table() {
-    let s = FRESH_SHELVES;
-    let f = FRESH_ITEMS;
-    let mut i = [0u16; 589815];
-    let first = rows::item::get_item(&f, ItemIndex(0));
-    rows::item::put_item(&mut i, ItemIndex(0), first);
-    let second = rows::item::get_item(&f, ItemIndex(1));
-    rows::item::put_item(&mut i, ItemIndex(1), second);
-    run(
+    let mut s = [0u16; SHELVES];
+    let mut i = [0u16; FULL];
+    tables::put_fresh_shelves(&mut s);
+    tables::put_fresh_item(&mut i, 0);
+    tables::put_fresh_item(&mut i, 1);
+    run_full(
         b"a table of 65535 rows, two used",
         tables::fresh_header(),
         &s,
@@ -198,12 +351,21 @@ fn full_table() {
     );
     let mut h = tables::fresh_header();
     h.used_items = 65535;
-    run(b"a table of 65535 rows, all used", h, &s, &i);
+    run_full(b"a table of 65535 rows, all used", h, &s, &i);
 }
 
-fn clear(name: &[u8], h: Header, shelves: &[u16], items: &[u16]) {
+// Whether tables of so many rows, and less by some numbers, can be cleared. What they hold is not asked.
+fn clear(name: &[u8], h: Header, shelf_numbers: usize, item_numbers: usize) {
+    let s = [0u16; SHELVES];
+    let i = [0u16; ITEMS];
+    if shelf_numbers > SHELVES {
+        return;
+    }
+    if item_numbers > ITEMS {
+        return;
+    }
     io::write_all(STDOUT_FILENO, name);
-    if audit::passes_for_clear(h, shelves, items) {
+    if audit::passes_for_clear(h, &s[0..shelf_numbers], &i[0..item_numbers]) {
         io::write_all(STDOUT_FILENO, b": can be cleared\n");
     } else {
         io::write_all(STDOUT_FILENO, b": can't be cleared\n");
@@ -211,22 +373,26 @@ fn clear(name: &[u8], h: Header, shelves: &[u16], items: &[u16]) {
 }
 
 fn clears() {
-    let s = SHELVES;
-    let i = ITEMS;
-    clear(b"an atlas in use", tables::header(), &s, &i);
+    let used = tables::header();
+    clear(b"an atlas in use", used, SHELVES, ITEMS);
     clear(
         b"an item table one number too short",
-        tables::header(),
-        &s,
-        &i[0..80],
+        used,
+        SHELVES,
+        ITEMS - 1,
     );
-    clear(b"the header of no atlas", rows::header::no_header(), &s, &i);
+    clear(
+        b"the header of no atlas",
+        rows::header::no_header(),
+        SHELVES,
+        ITEMS,
+    );
     let mut h = tables::fresh_header();
     h.used_shelves = 0;
     h.used_items = 0;
-    clear(b"a row for each column", h, &s[0..16], &i[0..18]);
-    clear(b"a shelf row too few", h, &s[0..15], &i[0..18]);
-    clear(b"an item row too few", h, &s[0..16], &i[0..17]);
+    clear(b"a row for each column", h, TWO_SHELVES, TWO_ITEMS);
+    clear(b"a shelf row too few", h, TWO_SHELVES - 1, TWO_ITEMS);
+    clear(b"an item row too few", h, TWO_SHELVES, TWO_ITEMS - 1);
 }
 
 fn main() {

@@ -1,0 +1,24 @@
+use Prim.Native.Nat.{_-_}
+use native.Mathlib.Omega.{arith}
+use Rattle.audit_runs.proofs.tables.put_items.Statement.{statement}
+use Rattle.audit_runs.proofs.tables.put_items.Tie as tie
+
+abbrev Inv-loop : tie.InvT-loop
+Inv-loop items₀ at₀ items at = Unit {0}
+
+abbrev μ-loop : tie.MeasureT-loop
+μ-loop items₀ at₀ items at = 9 - at
+
+pub put-items-spec : {M : Type 1} → statement M
+put-items-spec =
+    tie.close
+    (tie.spec
+    Inv-loop
+    μ-loop
+    (λ c. tt)
+    (λ c κs. tt)
+    (λ c κs. tt)
+    (λ c. omega arith)
+    (λ c. omega arith)
+    (λ c. tt)
+    (λ c. tt))
