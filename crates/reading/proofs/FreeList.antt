@@ -14,10 +14,11 @@ use Rattle.chains.specs.Lists.{_∈_, gather}
 use Rattle.chains.specs.Chain.{Chain}
 use Rattle.chains.specs.Walk.{Ends}
 use Rattle.chains.proofs.Chains.{self}
+use Rattle.chains.proofs.Members.{gather-in, in-gather}
 use Rattle.rules.specs.Atlas.{Item}
 use Rattle.rules.specs.Lies.{free, liveRows, freeRows}
 use Rattle.rules.specs.Audit.{freeNext, itemIn}
-use Rattle.reading.proofs.Lists.{gather-map, gathered, in-gather}
+use Rattle.reading.proofs.Lists.{gather-map}
 use Rattle.reading.proofs.Follow.{Back, chain-ends}
 
 -- ---- the free items and the live ones, among the items that are met
@@ -43,7 +44,7 @@ module _ (I : List ℕ) where
 
   pub free-in : (l : List ℕ) (r : ℕ) → r ∈ freeRows (map (itemIn I) l) → (r ∈ l) × (get items I r .allocated ≡ 0)
   free-in l r m =
-      let (q, k, w) = gathered (λ r. kept (live r) r) l r (rw free-are at m) in
+      let (q, k, w) = gather-in (λ r. kept (live r) r) l r (rw free-are at m) in
       let (e, b) = kept-in (live q) q r w in
       (rw e k, rw e (eqb-true (get items I q .allocated) 0 (not-false _ b)))
 
@@ -60,7 +61,7 @@ module _ (I : List ℕ) where
 
   pub live-in : (l : List ℕ) (r : ℕ) → r ∈ liveRows (map (itemIn I) l) → (r ∈ l) × (get items I r .allocated ≢ 0)
   live-in l r m =
-      let (q, k, w) = gathered (λ r. kept (not (live r)) r) l r (rw live-are at m) in
+      let (q, k, w) = gather-in (λ r. kept (not (live r)) r) l r (rw live-are at m) in
       let (e, b) = kept-in (not (live q)) q r w in
       (rw e k, rw e (λ z. eqb-false (get items I q .allocated) 0 (not-true _ (not-false _ b)) z))
 
