@@ -44,29 +44,29 @@ frees-length I (r ∷ rs) =
 -- ---- rule 5
 
 module _ {h : Header} {S I : List ℕ} (one : Rule1 h S I) (three : Rule3 h S I) where
-  -- a free list's rows lie in `into`, and there are no more of them
+  -- a free list's rows are distinct and used, name its shelf, are wide and free
   module _ (on : ℕ) (f : FreeListOf h S I on) where
-    pub list-distinct : Distinct (freeMet h S I on)
+    list-distinct : Distinct (freeMet h S I on)
     unfolding FreeListOf FreeList freeMet
     list-distinct = ends-distinct (freeNext I) (h .«used_items») (few-items one) (freeMet h S I on) (f .ends)
 
-    pub list-below : (r : ℕ) → r ∈ freeMet h S I on → r < h .«used_items»
+    list-below : (r : ℕ) → r ∈ freeMet h S I on → r < h .«used_items»
     unfolding FreeListOf FreeList freeMet
-    list-below r m = ends-below (freeNext I) (h .«used_items») (few-items one) (freeMet h S I on) (f .ends) r m
+    list-below = ends-below (freeNext I) (h .«used_items») (few-items one) (freeMet h S I on) (f .ends)
 
-    pub list-named : (r : ℕ) → r ∈ freeMet h S I on → get items I r .shelf .0 ≡ on
+    list-named : (r : ℕ) → r ∈ freeMet h S I on → get items I r .shelf .0 ≡ on
     unfolding FreeListOf FreeList freeMet
-    list-named r m = walk-each f (λ r. get items I r .shelf .0 ≡ on) (λ p r o. o .named) r m
+    list-named = walk-each f (λ r. get items I r .shelf .0 ≡ on) (λ p r o. o .named)
 
-    pub list-wide : (r : ℕ) → r ∈ freeMet h S I on → 1 ≤ get items I r .width
+    list-wide : (r : ℕ) → r ∈ freeMet h S I on → 1 ≤ get items I r .width
     unfolding FreeListOf FreeList freeMet
-    list-wide r m = walk-each f (λ r. 1 ≤ get items I r .width) (λ p r o. o .some-width) r m
+    list-wide = walk-each f (λ r. 1 ≤ get items I r .width) (λ p r o. o .some-width)
 
-    pub list-free : (r : ℕ) → r ∈ freeMet h S I on → get items I r .allocated ≡ 0
+    list-free : (r : ℕ) → r ∈ freeMet h S I on → get items I r .allocated ≡ 0
     unfolding FreeListOf FreeList freeMet
-    list-free r m = walk-each f (λ r. get items I r .allocated ≡ 0) (λ p r o. o .is-free) r m
+    list-free = walk-each f (λ r. get items I r .allocated ≡ 0) (λ p r o. o .is-free)
 
-    pub linked-list :
+    linked-list :
         Walk (freeNext I) (λ prev r. get items I r .«prev_unallocated» .0 ≡ prev) (λ prev r. r) (λ last. Unit {0}) (h .«used_items») (get shelves S on .«first_unallocated» .0) noRow
     unfolding FreeListOf FreeList
     linked-list = walk-map f (λ prev r. get items I r .«prev_unallocated» .0 ≡ prev) (λ p r m o. o .back)

@@ -21,7 +21,7 @@ pub length-gather : (f : ℕ → List ℕ) (rows : List ℕ) → length (gather 
 length-gather f [] = refl
 length-gather f (r ∷ rs) = omega (arith, length-gather f rs, length-append (f r) (gather f rs))
 
-pub sum-append : (g : ℕ → ℕ) (l m : List ℕ) → sumOver g (l ++ m) ≡ sumOver g l + sumOver g m
+sum-append : (g : ℕ → ℕ) (l m : List ℕ) → sumOver g (l ++ m) ≡ sumOver g l + sumOver g m
 sum-append g [] m = omega arith
 sum-append g (x ∷ l) m = omega (arith, sum-append g l m)
 
@@ -31,7 +31,7 @@ sum-gather g f (r ∷ rs) = omega (arith, sum-gather g f rs, sum-append g (f r) 
 
 -- ---- sums that agree
 
-pub sum-most : (f g : ℕ → ℕ) (rows : List ℕ) → ((r : ℕ) → r ∈ rows → f r ≤ g r) → sumOver f rows ≤ sumOver g rows
+sum-most : (f g : ℕ → ℕ) (rows : List ℕ) → ((r : ℕ) → r ∈ rows → f r ≤ g r) → sumOver f rows ≤ sumOver g rows
 sum-most f g [] h = omega arith
 sum-most f g (r ∷ rs) h = omega (arith, h r (List·Memᴰ·head refl), sum-most f g rs (λ x m. h x (List·Memᴰ·tail m)))
 
