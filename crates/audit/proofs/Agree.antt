@@ -14,12 +14,13 @@ use Rattle.rows.specs.Views.{Links, linksOf}
 use Rattle.rows.specs.declared.header.Header.{Header}
 use Rattle.rows.specs.declared.item.ItemRow.{ItemRow}
 use Rattle.chains.specs.Lists.{_∈_}
+use Rattle.chains.proofs.Members.{each-at, each-from}
 use Rattle.rules.specs.Lies.{noLinks}
-use Rattle.rules.specs.Audit.{shelvesMet, allItemsMet, freedShelvesMet, freedItemsMet, Rule2, Rule3, Rule5, Rule6, Rule7}
+use Rattle.rules.specs.Audit.{shelvesMet, allItemsMet, freedShelvesMet, freedItemsMet, Rule1, Rule2, Rule3, Rule5, Rule6, Rule7}
+use Rattle.reading.proofs.Once.{all-flagged}
 use Rattle.audit.specs.declared.items.Totals.{Totals}
 use Rattle.audit.specs.Counts.{apart, strayIn, strayOf, AllCounts, ListsAgree}
-use Rattle.audit.proofs.Members.{each-in, in-each, sum-none, none-sum}
-use Rattle.audit.proofs.Serving.{all-flagged}
+use Rattle.audit.proofs.Sums.{sum-none, none-sum}
 use Rattle.audit.proofs.FreedRows.{freed-shelves-right, right-freed-shelves, freed-items-right, right-freed-items, wide-serves}
 use Rattle.audit.proofs.FreeLists.{lists-right, right-lists, right-total}
 
@@ -56,8 +57,7 @@ no-stray i b f = go (ℕ-discrete (i .allocated) 0) where
 
 -- ---- the theorem
 
-module _ (h : Header) (S I : List ℕ) (bs : h .«used_shelves» ≤ noRow) (bi : h .«used_items» ≤ noRow) (two : Rule2 h S I) (three : Rule3 h S I)
-    (t : Totals) (n : AllCounts h S I t) where
+module _ {h : Header} {S I : List ℕ} (one : Rule1 h S I) (two : Rule2 h S I) (three : Rule3 h S I) (t : Totals) (n : AllCounts h S I t) where
   module _ (a : ListsAgree h S I t) where
     freed-shelves-count : length (shelvesMet h S) + length (freedShelvesMet h S) ≡ h .«used_shelves»
     freed-shelves-count = rw (← (n .shelves)) (a .all-shelves)
@@ -66,29 +66,29 @@ module _ (h : Header) (S I : List ℕ) (bs : h .«used_shelves» ≤ noRow) (bi 
     freed-items-count = rw (← (n .items)) (a .all-items)
 
     pub agree-5 : Rule5 h S I
-    agree-5 = lists-right h S I bs bi three (wide-serves h S I bs bi two three (a .freed-items) freed-items-count) (a .free-lists) (a .all-free ∙ n .free)
+    agree-5 = lists-right one three (wide-serves one two three (a .freed-items) freed-items-count) (a .free-lists) (a .all-free ∙ n .free)
 
     pub agree-6 : Rule6 h S I
     agree-6 = record {
-      shelves-freed = freed-shelves-right h S I bs bi two three (a .freed-shelves) freed-shelves-count .0;
-      items-freed = freed-items-right h S I bs bi two three (a .freed-items) freed-items-count .0;
+      shelves-freed = freed-shelves-right one two three (a .freed-shelves) freed-shelves-count .0;
+      items-freed = freed-items-right one two three (a .freed-items) freed-items-count .0;
     }
 
     pub agree-7 : Rule7 h S I
     agree-7 = record {
       occupied = sym (a .occupied) ∙ n .area;
-      live-unlinked = in-each (allItemsMet h S I) (λ r m. unlinked (get items I r) (sum-none (strayOf I) (allItemsMet h S I) (sym (n .stray) ∙ a .no-stray) r m));
-      freed-shelves-zero = freed-shelves-right h S I bs bi two three (a .freed-shelves) freed-shelves-count .1;
-      freed-items-zero = freed-items-right h S I bs bi two three (a .freed-items) freed-items-count .1;
+      live-unlinked = each-from (allItemsMet h S I) (λ r m. unlinked (get items I r) (sum-none (strayOf I) (allItemsMet h S I) (sym (n .stray) ∙ a .no-stray) r m));
+      freed-shelves-zero = freed-shelves-right one two three (a .freed-shelves) freed-shelves-count .1;
+      freed-items-zero = freed-items-right one two three (a .freed-items) freed-items-count .1;
     }
 
   pub rules-agree : Rule5 h S I → Rule6 h S I → Rule7 h S I → ListsAgree h S I t
   rules-agree five six seven =
-      let s = right-freed-shelves h S I bs bi two three (six .shelves-freed) (seven .freed-shelves-zero) in
-      let i = right-freed-items h S I bs bi two three (six .items-freed) (seven .freed-items-zero) in
+      let s = right-freed-shelves one two three (six .shelves-freed) (seven .freed-shelves-zero) in
+      let i = right-freed-items one two three (six .items-freed) (seven .freed-items-zero) in
       let unstray : (r : ℕ) → r ∈ allItemsMet h S I → strayOf I r ≡ 0 =
-      λ r m. no-stray (get items I r) (all-flagged h S I bs bi three r m)
-      (each-in (λ r. get items I r .allocated ≡ 1 → linksOf (get items I r) ≡ noLinks) (allItemsMet h S I) (seven .live-unlinked) r m) in
+      λ r m. no-stray (get items I r) (all-flagged one three r m)
+      (each-at (λ r. get items I r .allocated ≡ 1 → linksOf (get items I r) ≡ noLinks) (allItemsMet h S I) (seven .live-unlinked) r m) in
       record {
         no-stray = n .stray ∙ none-sum (strayOf I) (allItemsMet h S I) unstray;
         occupied = n .area ∙ sym (seven .occupied);
@@ -96,6 +96,6 @@ module _ (h : Header) (S I : List ℕ) (bs : h .«used_shelves» ≤ noRow) (bi 
         all-shelves = rw (n .shelves) (s .1);
         freed-items = i .0;
         all-items = rw (n .items) (i .1);
-        free-lists = right-lists h S I bs bi three five;
-        all-free = right-total h S I bs bi three five ∙ sym (n .free);
+        free-lists = right-lists one three five;
+        all-free = right-total one three five ∙ sym (n .free);
       }

@@ -1,20 +1,16 @@
 -- The five verdicts exclude one another: what the audit has decided where it gives one makes that one exact. Assumes nothing.
 use mathlib.Core.Path.{_≡_, refl, ap}
 use mathlib.Core.List.{List}
-use Prim.Native.Nat.{ℕ, _≤_}
+use Prim.Native.Nat.{ℕ}
 use native.Mathlib.Omega.{arith}
-use Rattle.numbers.specs.Index.{noRow}
-use Rattle.rows.specs.Row.{rows-few}
-use Rattle.rows.specs.Item.{items}
-use Rattle.rows.specs.Shelf.{shelves}
 use Rattle.rows.specs.declared.header.Header.{Header}
 use Rattle.rules.specs.Audit.{Rule1, Rule2, Rule3}
+use Rattle.reading.proofs.Reading.{no-row-twice}
 use Rattle.audit.specs.declared.Verdict.{Verdict}
 use Rattle.audit.specs.declared.Verdict.the-variants as says
 use Rattle.audit.specs.declared.items.Totals.{Totals}
 use Rattle.audit.specs.Counts.{AllCounts, ListsAgree}
 use Rattle.audit.specs.Verdicts.{Exact}
-use Rattle.audit.proofs.Serving.{no-row-twice}
 use Rattle.audit.proofs.Agree.{agree-5, agree-6, agree-7, rules-agree}
 
 abbrev order : Verdict → ℕ
@@ -59,29 +55,23 @@ module _ (h : Header) (S I : List ℕ) where
       }
 
       module _ (three : Rule3 h S I) (t : Totals) (n : AllCounts h S I t) where
-        bs : h .«used_shelves» ≤ noRow
-        bs = omega (arith, one .shelves-fit, rows-few shelves S)
-
-        bi : h .«used_items» ≤ noRow
-        bi = omega (arith, one .items-fit, rows-few items I)
-
         pub fails-5 : (ListsAgree h S I t → ⊥) → Exact h S I says.Rules5To7
         fails-5 no′ = record {
-          passes = (differ says.Rules5To7 says.Passes (λ q. omega arith), λ p. absurd (no′ (rules-agree h S I bs bi two three t n (p .rule5) (p .rule6) (p .rule7))));
+          passes = (differ says.Rules5To7 says.Passes (λ q. omega arith), λ p. absurd (no′ (rules-agree one two three t n (p .rule5) (p .rule6) (p .rule7))));
           rule1 = (differ says.Rules5To7 says.Rule1 (λ q. omega arith), λ p. absurd (p one));
           rule2 = (differ says.Rules5To7 says.Rule2 (λ q. omega arith), λ p. absurd (p .1 two));
           rule3 = (differ says.Rules5To7 says.Rule3 (λ q. omega arith), λ p. absurd (p .2 three));
-          rules5to7 = (λ e. (one, two, three, λ r. no′ (rules-agree h S I bs bi two three t n (r .0) (r .1) (r .2))), λ p. refl);
+          rules5to7 = (λ e. (one, two, three, λ r. no′ (rules-agree one two three t n (r .0) (r .1) (r .2))), λ p. refl);
         }
 
         pub all-hold : ListsAgree h S I t → Exact h S I says.Passes
         all-hold a =
-            let five = agree-5 h S I bs bi two three t n a in
-            let six = agree-6 h S I bs bi two three t n a in
-            let seven = agree-7 h S I bs bi two three t n a in
+            let five = agree-5 one two three t n a in
+            let six = agree-6 one two three t n a in
+            let seven = agree-7 one two three t n a in
             record {
               passes = (
-                λ e. record { rule1 = one; rule2 = two; rule3 = three; rule4 = no-row-twice h S I bs bi two three; rule5 = five; rule6 = six; rule7 = seven },
+                λ e. record { rule1 = one; rule2 = two; rule3 = three; rule4 = no-row-twice h S I one two three; rule5 = five; rule6 = six; rule7 = seven },
                 λ p. refl,
               );
               rule1 = (differ says.Passes says.Rule1 (λ q. omega arith), λ p. absurd (p one));

@@ -1,108 +1,72 @@
 -- A shelf's free list: its members are free items of that shelf, no two alike; so the counts say whether it lacks none. Assumes nothing.
 use mathlib.Core.Path.{_≡_, refl, sym, _∙_}
-use mathlib.Core.Bool.{Bool, true, false}
-use mathlib.Core.List.{List, [], _∷_, List·Memᴰ·head, List·Memᴰ·not-nil, List·Memᴰ·eq-of-singleton}
+use mathlib.Core.Bool.{Bool, true, false, not}
+use mathlib.Core.List.{List, [], _∷_, map}
 use Prim.Native.Nat.{ℕ, _≤_, _<_}
 use native.Mathlib.Omega.{arith}
-use borrow.Author.Tests.{eq-eqb, eqb-true}
 use lib.Dec.{eqb}
-use lib.ListN.{length}
+use lib.ListN.{length, length-append}
 use Rattle.numbers.specs.Index.{noRow}
 use Rattle.numbers.specs.Pick.{pick}
 use Rattle.rows.specs.Row.{get}
 use Rattle.rows.specs.Item.{items}
 use Rattle.rows.specs.Shelf.{shelves}
 use Rattle.rows.specs.declared.header.Header.{Header}
-use Rattle.chains.specs.Lists.{_∈_, Distinct, Each, gather}
+use Rattle.chains.specs.Lists.{_∈_, Distinct, Each}
 use Rattle.chains.specs.Walk.{Walk}
 use Rattle.chains.proofs.Lists.{distinct-within, distinct-cover}
+use Rattle.chains.proofs.Members.{each-at, each-from, gather-in}
 use Rattle.chains.proofs.Ends.{ends-distinct, ends-below}
-use Rattle.rules.specs.Audit.{freeNext, shelvesMet, itemsMet, freeMet, allItemsMet, FreeListRight, Rule3, Rule5, sumOver}
+use Rattle.chains.proofs.Walks.{walk-each, walk-map}
+use Rattle.rules.specs.Lies.{freeRows}
+use Rattle.rules.specs.Audit.{freeNext, shelvesMet, itemsMet, freeMet, allItemsMet, FreeListRight, itemIn, Rule1, Rule3, Rule5, sumOver}
+use Rattle.reading.proofs.Once.{few-items, items-distinct, items-named, items-wide}
+use Rattle.reading.proofs.FreeList.{free-in, in-free, free-distinct}
 use Rattle.audit.specs.Counts.{freeIn, freeOf, FreeItem, FreeList, FreeListOf, allFreeMet}
-use Rattle.audit.proofs.Turns.{length-gather, sum-gather}
-use Rattle.audit.proofs.Members.{walk-each, walk-map, each-in, in-each, gather-in, in-gather, gather-distinct, sum-parts, sum-same}
-use Rattle.audit.proofs.Serving.{items-distinct, items-named, items-wide}
+use Rattle.audit.proofs.Sums.{length-gather, sum-gather, sum-parts, sum-same}
 
 -- ---- the free ones of some rows
 
-only : Bool → ℕ → List ℕ
-only true r = r ∷ []
-only false r = []
+abbrev frees : List ℕ → List ℕ → List ℕ
+frees I rows = freeRows (map (itemIn I) rows)
 
--- the row itself, if its item is free
-own : List ℕ → ℕ → List ℕ
-own I r = only (eqb (get items I r .allocated) 0) r
+one-length : (b : Bool) (r : ℕ) → length (pick (not b) [] (r ∷ [])) ≡ pick b 1 0
+one-length true r = refl
+one-length false r = refl
 
-frees : List ℕ → List ℕ → List ℕ
-frees I rows = gather (own I) rows
-
-only-in : (b : Bool) (r x : ℕ) → x ∈ only b r → (b ≡ true) × (x ≡ r)
-unfolding only
-only-in true r x m = (refl, List·Memᴰ·eq-of-singleton m)
-only-in false r x m = absurd (List·Memᴰ·not-nil m)
-
-only-distinct : (b : Bool) (r : ℕ) → Distinct (only b r)
-unfolding only
-only-distinct true r = (λ m. List·Memᴰ·not-nil m, tt)
-only-distinct false r = tt
-
-only-length : (b : Bool) (r : ℕ) → length (only b r) ≡ pick b 1 0
-unfolding only
-only-length true r = refl
-only-length false r = refl
-
-module _ (I : List ℕ) (rows : List ℕ) where
-  frees-in : (x : ℕ) → x ∈ frees I rows → (x ∈ rows) × (get items I x .allocated ≡ 0)
-  unfolding frees own
-  frees-in x m =
-      let g = gather-in (own I) rows x m in
-      let o = only-in (eqb (get items I (g .0) .allocated) 0) (g .0) x (g .2) in
-      (rw (o .1) (g .1), rw (o .1) (eqb-true _ _ (o .0)))
-
-  in-frees : (x : ℕ) → x ∈ rows → get items I x .allocated ≡ 0 → x ∈ frees I rows
-  unfolding frees own only
-  in-frees x m e =
-      let here : x ∈ only (eqb (get items I x .allocated) 0) x = rw (eq-eqb _ _ e) (List·Memᴰ·head refl) in
-      in-gather (own I) rows x x m here
-
-  frees-distinct : Distinct rows → Distinct (frees I rows)
-  unfolding frees own
-  frees-distinct d =
-      gather-distinct (own I) (λ r. r) rows d (λ r m. only-distinct (eqb (get items I r .allocated) 0) r)
-      (λ r m x k. only-in (eqb (get items I r .allocated) 0) r x k .1)
-
-  frees-length : length (frees I rows) ≡ sumOver (freeOf I) rows
-  unfolding frees own freeIn
-  frees-length =
-      length-gather (own I) rows
-      ∙ sum-same (λ r. length (own I r)) (freeOf I) rows (λ r m. only-length (eqb (get items I r .allocated) 0) r)
+frees-length : (I rows : List ℕ) → length (frees I rows) ≡ sumOver (freeOf I) rows
+unfolding itemIn freeIn
+frees-length I [] = refl
+frees-length I (r ∷ rs) =
+    let free : Bool = eqb (get items I r .allocated) 0 in
+    omega (arith, frees-length I rs, one-length free r, length-append (pick (not free) [] (r ∷ [])) (frees I rs))
 
 -- ---- rule 5
 
-module _ (h : Header) (S I : List ℕ) (bs : h .«used_shelves» ≤ noRow) (bi : h .«used_items» ≤ noRow) (three : Rule3 h S I) where
-  -- a free list's rows lie in `into`, and there are no more of them
+module _ {h : Header} {S I : List ℕ} (one : Rule1 h S I) (three : Rule3 h S I) where
+  -- a free list's rows are distinct and used, name its shelf, are wide and free
   module _ (on : ℕ) (f : FreeListOf h S I on) where
-    pub list-distinct : Distinct (freeMet h S I on)
+    list-distinct : Distinct (freeMet h S I on)
     unfolding FreeListOf FreeList freeMet
-    list-distinct = ends-distinct (freeNext I) (h .«used_items») bi (freeMet h S I on) (f .ends)
+    list-distinct = ends-distinct (freeNext I) (h .«used_items») (few-items one) (freeMet h S I on) (f .ends)
 
-    pub list-below : (r : ℕ) → r ∈ freeMet h S I on → r < h .«used_items»
+    list-below : (r : ℕ) → r ∈ freeMet h S I on → r < h .«used_items»
     unfolding FreeListOf FreeList freeMet
-    list-below r m = ends-below (freeNext I) (h .«used_items») bi (freeMet h S I on) (f .ends) r m
+    list-below = ends-below (freeNext I) (h .«used_items») (few-items one) (freeMet h S I on) (f .ends)
 
-    pub list-named : (r : ℕ) → r ∈ freeMet h S I on → get items I r .shelf .0 ≡ on
+    list-named : (r : ℕ) → r ∈ freeMet h S I on → get items I r .shelf .0 ≡ on
     unfolding FreeListOf FreeList freeMet
-    list-named r m = walk-each f (λ r. get items I r .shelf .0 ≡ on) (λ p r o. o .named) r m
+    list-named = walk-each f (λ r. get items I r .shelf .0 ≡ on) (λ p r o. o .named)
 
-    pub list-wide : (r : ℕ) → r ∈ freeMet h S I on → 1 ≤ get items I r .width
+    list-wide : (r : ℕ) → r ∈ freeMet h S I on → 1 ≤ get items I r .width
     unfolding FreeListOf FreeList freeMet
-    list-wide r m = walk-each f (λ r. 1 ≤ get items I r .width) (λ p r o. o .some-width) r m
+    list-wide = walk-each f (λ r. 1 ≤ get items I r .width) (λ p r o. o .some-width)
 
-    pub list-free : (r : ℕ) → r ∈ freeMet h S I on → get items I r .allocated ≡ 0
+    list-free : (r : ℕ) → r ∈ freeMet h S I on → get items I r .allocated ≡ 0
     unfolding FreeListOf FreeList freeMet
-    list-free r m = walk-each f (λ r. get items I r .allocated ≡ 0) (λ p r o. o .is-free) r m
+    list-free = walk-each f (λ r. get items I r .allocated ≡ 0) (λ p r o. o .is-free)
 
-    pub linked-list :
+    linked-list :
         Walk (freeNext I) (λ prev r. get items I r .«prev_unallocated» .0 ≡ prev) (λ prev r. r) (λ last. Unit {0}) (h .«used_items») (get shelves S on .«first_unallocated» .0) noRow
     unfolding FreeListOf FreeList
     linked-list = walk-map f (λ prev r. get items I r .«prev_unallocated» .0 ≡ prev) (λ p r m o. o .back)
@@ -110,22 +74,22 @@ module _ (h : Header) (S I : List ℕ) (bs : h .«used_shelves» ≤ noRow) (bi 
   -- with every used row that has a width on an item chain, a free list's rows are items of its shelf
   module _ (serves : (r : ℕ) → r < h .«used_items» → 1 ≤ get items I r .width → r ∈ allItemsMet h S I) (lists : Each (FreeListOf h S I) (shelvesMet h S)) where
     list-at : (on : ℕ) → on ∈ shelvesMet h S → FreeListOf h S I on
-    list-at = each-in (FreeListOf h S I) (shelvesMet h S) lists
+    list-at = each-at (FreeListOf h S I) (shelvesMet h S) lists
 
     list-items : (on : ℕ) → on ∈ shelvesMet h S → (r : ℕ) → r ∈ freeMet h S I on → r ∈ itemsMet h S I on
     unfolding allItemsMet
     list-items on m r k =
         let f = list-at on m in
         let g = gather-in (itemsMet h S I) (shelvesMet h S) r (serves r (list-below on f r k) (list-wide on f r k)) in
-        let same : g .0 ≡ on = sym (items-named h S I bs bi three (g .0) (g .1) r (g .2)) ∙ list-named on f r k in
+        let same : g .0 ≡ on = sym (items-named one three (g .0) (g .1) r (g .2)) ∙ list-named on f r k in
         rw same at (g .2)
 
     list-frees : (on : ℕ) → on ∈ shelvesMet h S → (r : ℕ) → r ∈ freeMet h S I on → r ∈ frees I (itemsMet h S I on)
-    list-frees on m r k = in-frees I (itemsMet h S I on) r (list-items on m r k) (list-free on (list-at on m) r k)
+    list-frees on m r k = in-free I (itemsMet h S I on) r (list-items on m r k) (list-free on (list-at on m) r k)
 
     pub lists-right : length (allFreeMet h S I) ≡ sumOver (freeOf I) (allItemsMet h S I) → Rule5 h S I
     unfolding Rule5 allFreeMet allItemsMet
-    lists-right e = in-each (shelvesMet h S) right where
+    lists-right e = each-from (shelvesMet h S) right where
       most : (on : ℕ) → on ∈ shelvesMet h S → length (freeMet h S I on) ≤ sumOver (freeOf I) (itemsMet h S I on)
       most on m =
           let q = distinct-within (freeMet h S I on) (frees I (itemsMet h S I on)) (list-distinct on (list-at on m)) (list-frees on m) in
@@ -147,7 +111,7 @@ module _ (h : Header) (S I : List ℕ) (bs : h .«used_shelves» ≤ noRow) (bi 
         once = list-distinct on (list-at on m);
         exactly = λ r. (
           λ k. (list-items on m r k, list-free on (list-at on m) r k),
-          λ q. none-missing on m r (in-frees I (itemsMet h S I on) r (q .0) (q .1)),
+          λ q. none-missing on m r (in-free I (itemsMet h S I on) r (q .0) (q .1)),
         );
       }
 
@@ -155,7 +119,7 @@ module _ (h : Header) (S I : List ℕ) (bs : h .«used_shelves» ≤ noRow) (bi 
   module _ (five : Rule5 h S I) where
     right-at : (on : ℕ) → on ∈ shelvesMet h S → FreeListRight h S I on
     unfolding Rule5
-    right-at = each-in (FreeListRight h S I) (shelvesMet h S) five
+    right-at = each-at (FreeListRight h S I) (shelvesMet h S) five
 
     right-list : (on : ℕ) → on ∈ shelvesMet h S → FreeListOf h S I on
     unfolding FreeListOf FreeList freeMet
@@ -163,19 +127,19 @@ module _ (h : Header) (S I : List ℕ) (bs : h .«used_shelves» ≤ noRow) (bi 
         walk-map (right-at on m .linked) (λ prev r. FreeItem on prev (get items I r))
         (λ p r k o.
         let q = right-at on m .exactly r .0 k in
-        record { back = o; named = items-named h S I bs bi three on m r (q .0); some-width = items-wide h S I bs bi three on m r (q .0); is-free = q .1 })
+        record { back = o; named = items-named one three on m r (q .0); some-width = items-wide one three on m r (q .0); is-free = q .1 })
 
     pub right-lists : Each (FreeListOf h S I) (shelvesMet h S)
-    right-lists = in-each (shelvesMet h S) right-list
+    right-lists = each-from (shelvesMet h S) right-list
 
     right-length : (on : ℕ) → on ∈ shelvesMet h S → length (freeMet h S I on) ≡ sumOver (freeOf I) (itemsMet h S I on)
     right-length on m =
         let there : (r : ℕ) → r ∈ freeMet h S I on → r ∈ frees I (itemsMet h S I on) =
-        λ r k. in-frees I (itemsMet h S I on) r (right-at on m .exactly r .0 k .0) (right-at on m .exactly r .0 k .1) in
+        λ r k. in-free I (itemsMet h S I on) r (right-at on m .exactly r .0 k .0) (right-at on m .exactly r .0 k .1) in
         let back : (r : ℕ) → r ∈ frees I (itemsMet h S I on) → r ∈ freeMet h S I on =
-        λ r k. right-at on m .exactly r .1 (frees-in I (itemsMet h S I on) r k) in
+        λ r k. right-at on m .exactly r .1 (free-in I (itemsMet h S I on) r k) in
         let lo = distinct-within (freeMet h S I on) (frees I (itemsMet h S I on)) (right-at on m .once) there in
-        let hi = distinct-within (frees I (itemsMet h S I on)) (freeMet h S I on) (frees-distinct I (itemsMet h S I on) (items-distinct h S I bs bi three on m)) back in
+        let hi = distinct-within (frees I (itemsMet h S I on)) (freeMet h S I on) (free-distinct I (itemsMet h S I on) (items-distinct one three on m)) back in
         omega (arith, lo, hi, frees-length I (itemsMet h S I on))
 
     pub right-total : length (allFreeMet h S I) ≡ sumOver (freeOf I) (allItemsMet h S I)

@@ -2,10 +2,10 @@
 -- more than the used rows is refused at its end (`Going`). Assumes nothing.
 use mathlib.Core.Path.{_≡_, refl, sym, _∙_}
 use mathlib.Core.Logic.{_≢_}
-use mathlib.Core.Bool.{Bool, true, false, _&&_, false≢true}
+use mathlib.Core.Bool.{Bool, true, false, _&&_, and-false, false≢true}
 use mathlib.Core.List.{List}
 use Prim.Native.Nat.{ℕ, _+_, _-_, _*_, _≤_, _<_}
-use native.Mathlib.Decide.{ℕ-discrete}
+use native.Mathlib.Decide.{decLt}
 use native.Mathlib.Omega.{arith}
 use borrow.Author.Tests.{eq-eqb, ne-eqb}
 use lib.Dec.{eqb}
@@ -18,7 +18,8 @@ use Rattle.rows.specs.declared.item.ItemRow.{ItemRow}
 use Rattle.rows.specs.declared.shelf.ShelfRow.{ShelfRow}
 use Rattle.rules.specs.Audit.{itemNext, Along, ItemRight, along, atLeft, sumOver}
 use Rattle.audit.specs.Counts.{apart, freeIn, liveIn, strayIn, freeOf, liveOf, strayOf, rowsOf, RightOf}
-use Rattle.audit.proofs.Turns.{Deciding, begins, onward, wrong, no-fuel, outside, Lasting, lasts, lasted, Summing, sums, summed}
+use Rattle.chains.proofs.Turns.{Deciding, begins, onward, wrong, no-fuel, outside, Lasting, lasts, lasted}
+use Rattle.audit.proofs.Sums.{Summing, sums, summed}
 
 pub record AtItem (h : Header) (I : List ℕ) (on : ℕ) (s : ShelfRow) (cur fuel : ℕ) (d : Along) (free live stray : ℕ) : Type 0 where
   pub walk :
@@ -58,10 +59,7 @@ pub record Going (h : Header) (I : List ℕ) (on : ℕ) (s : ShelfRow) (cur coun
 
 -- what holds if a count is within the used rows holds if it is refuted beyond them
 either : (A : Type 0) (count used : ℕ) → (count ≤ used → A) → (used < count → A) → A
-either A count used f g = go (ℕ-discrete (count - used) 0) where
-  go : Dec (count - used ≡ 0) → A
-  go (yes e) = f (omega arith)
-  go (no n) = g (omega (arith, n))
+either A count used f g = elim (decLt used count) [ yes b ↦ g b | no n ↦ f (omega (arith, n)) ]
 
 pub going-begins : (h : Header) (I : List ℕ) (on : ℕ) (s : ShelfRow) → h .«used_items» ≤ noRow
     → Going h I on s (s .«first_item» .0) 0 (record { prev = noRow; x = s .x; after-free = eqb 0 (s .x + 1) }) 0 (s .x - s .x - 0) 0
@@ -114,10 +112,6 @@ with-free after o q = record {
   flag-right = o .flag-right;
   apart = q;
 }
-
-and-false : (b : Bool) → b && false ≡ false
-and-false true = refl
-and-false false = refl
 
 both : {a b : Bool} → a ≡ true → b ≡ true → a && b ≡ true
 both e f = rw (e, f)

@@ -1,12 +1,10 @@
 pub mod Rows
 pub mod WithinLimits
-pub mod Turns
+pub mod Sums
 pub mod ShelfTurns
 pub mod ListTurns
 pub mod ItemTurns
 pub mod TotalTurns
-pub mod Members
-pub mod Serving
 pub mod FreedRows
 pub mod FreeLists
 pub mod Agree

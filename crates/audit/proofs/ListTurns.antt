@@ -15,7 +15,7 @@ use Rattle.rows.specs.declared.shelf.ShelfRow.{ShelfRow}
 use Rattle.chains.specs.Walk.{rowsFrom}
 use Rattle.rules.specs.Audit.{shelfNext, itemNext, freeNext, freedShelvesMet, freedItemsMet}
 use Rattle.audit.specs.Counts.{FreeItem, FreeList, FreedShelves, FreedItems}
-use Rattle.audit.proofs.Turns.{Deciding, begins, onward, wrong, Lasting, lasts, lasted}
+use Rattle.chains.proofs.Turns.{Deciding, begins, onward, wrong, Lasting, lasts, lasted}
 
 -- ---- a free list
 

@@ -14,7 +14,7 @@ use Rattle.rows.specs.declared.header.Header.{Header}
 use Rattle.rows.specs.declared.shelf.ShelfRow.{ShelfRow}
 use Rattle.rules.specs.Limits.{columns}
 use Rattle.rules.specs.Audit.{limitsOf, shelfNext, Down, ShelfRight, down, atTop, AllColumns, Rule2}
-use Rattle.audit.proofs.Turns.{Deciding, begins, onward, wrong}
+use Rattle.chains.proofs.Turns.{Deciding, begins, onward, wrong}
 
 -- where the walk of rule 2 stands
 pub record AtShelf (h : Header) (S I : List ℕ) (cur fuel : ℕ) (d : Down) : Type 0 where

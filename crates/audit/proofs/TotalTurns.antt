@@ -17,40 +17,14 @@ use Rattle.rows.specs.Shelf.{shelves}
 use Rattle.rows.specs.declared.header.Header.{Header}
 use Rattle.rows.specs.declared.shelf.ShelfRow.{ShelfRow}
 use Rattle.chains.specs.Lists.{Each}
-use Rattle.chains.specs.Walk.{rowsFrom}
 use Rattle.rules.specs.Audit.{shelfNext, shelvesMet, itemsMet, freeMet, allItemsMet, ItemsRight, Rule3, sumOver, areaMet}
 use Rattle.audit.specs.declared.items.Tally.{Tally}
 use Rattle.audit.specs.declared.items.Totals.{Totals}
 use Rattle.audit.specs.declared.lists.Counted.{Counted}
 use Rattle.audit.specs.Counts.{freeOf, liveOf, liveIn, strayOf, rowsOf, RightOf, ShelfTallied, AllCounts, AllTallied, FreeListCounted, FreeListsCounted, FreeListOf, allFreeMet}
 use Rattle.numbers.specs.Decides.{denied, granted}
-use Rattle.audit.proofs.Turns.{met-step, met-end, met-out, Summing, sums, sum-ended, sum-out, length-gather, sum-gather, length-sum, summed-as}
-
--- ---- a rule for each row by itself
-
--- `A` holds exactly when each of the rows still to be met has P
-pub record Eaching (P : ℕ → Type 0) (nx : ℕ → ℕ) (A : Type 0) (cur fuel : ℕ) : Type 0 where
-  pub ahead : A → Each P (rowsFrom nx fuel cur)
-  pub back : Each P (rowsFrom nx fuel cur) → A
-
-pub each-begins : {P : ℕ → Type 0} {nx : ℕ → ℕ} {cur fuel : ℕ} → Eaching P nx (Each P (rowsFrom nx fuel cur)) cur fuel
-each-begins = record { ahead = λ a. a; back = λ a. a }
-
-module _ {P : ℕ → Type 0} {nx : ℕ → ℕ} {A : Type 0} {cur fuel : ℕ} (d : Eaching P nx A cur fuel) where
-  here : cur ≢ noRow → 1 ≤ fuel → A → P cur × Each P (rowsFrom nx (fuel - 1) (nx cur))
-  here ne f a = rw (met-step nx fuel cur ne f, Each) at (d .ahead a)
-
-  pub each-wrong : cur ≢ noRow → 1 ≤ fuel → (P cur → ⊥) → A → ⊥
-  each-wrong ne f n a = n (here ne f a .0)
-
-  pub each-onward : cur ≢ noRow → 1 ≤ fuel → P cur → Eaching P nx A (nx cur) (fuel - 1)
-  each-onward ne f p = record { ahead = λ a. here ne f a .1; back = λ r. d .back (rw (met-step nx fuel cur ne f, Each) (p, r)) }
-
-  pub each-ended : cur ≡ noRow → A
-  each-ended e = d .back (rw (met-end nx fuel cur e, Each) tt)
-
-  pub each-out : fuel ≡ 0 → A
-  each-out e = d .back (rw (met-out nx fuel cur e, Each) tt)
+use Rattle.chains.proofs.Turns.{Eaching, each-begins, each-wrong, each-onward, each-ended, each-out}
+use Rattle.audit.proofs.Sums.{Summing, sums, sum-ended, sum-out, length-gather, sum-gather, length-sum, summed-as}
 
 -- ---- the items of all the shelves
 

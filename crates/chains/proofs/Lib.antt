@@ -3,3 +3,5 @@ pub mod Chains
 pub mod Changes
 pub mod Ends
 pub mod Walks
+pub mod Members
+pub mod Turns

@@ -69,15 +69,19 @@ decMemᴰ x (y ∷ ys) = pick (ℕ-discrete x y) (decMemᴰ x ys)
     pick (no ne) (yes m) = yes (List·Memᴰ·tail m)
     pick (no ne) (no nm) = no (λ k. ⊎-elim ne nm (List·Memᴰ·cases-cons k))
 
--- where `n` distinct numbers are below `n`, each number below `n` is among them
-pub distinct-all : (l : List ℕ) (n : ℕ) → Distinct l → ((x : ℕ) → List·Memᴰ x l → x < n) → length l ≡ n → (y : ℕ) → y < n → List·Memᴰ y l
-distinct-all l n d b len y h = pick (decMemᴰ y l)
+-- distinct elements of `m`, as many as `m` has, are all of `m`
+pub distinct-cover : (l m : List ℕ) → Distinct l → ((x : ℕ) → List·Memᴰ x l → List·Memᴰ x m) → length m ≤ length l → (y : ℕ) → List·Memᴰ y m → List·Memᴰ y l
+distinct-cover l m d s len y h = pick (decMemᴰ y l)
   where
     pick : Dec (List·Memᴰ y l) → List·Memᴰ y l
-    pick (yes m) = m
+    pick (yes k) = k
     pick (no nm) =
-        let k : suc (length l) ≤ n = distinct-below (y ∷ l) n (nm, d) (λ x m. ⊎-elim (λ e. omega arith) (b x) (List·Memᴰ·cases-cons m)) in
+        let k : suc (length l) ≤ length m = distinct-within (y ∷ l) m (nm, d) (λ x q. ⊎-elim (λ e. Memᴰ·cast e h) (s x) (List·Memᴰ·cases-cons q)) in
         absurd (omega arith)
+
+-- where `n` distinct numbers are below `n`, each number below `n` is among them
+pub distinct-all : (l : List ℕ) (n : ℕ) → Distinct l → ((x : ℕ) → List·Memᴰ x l → x < n) → length l ≡ n → (y : ℕ) → y < n → List·Memᴰ y l
+distinct-all l n d b len y h = distinct-cover l (upto n) d (λ x k. mem-upto x n (b x k)) (omega (arith, length-upto n)) y (mem-upto y n h)
 
 -- two lists of distinct numbers with none in common are distinct together, and the other way
 pub distinct-append : (l m : List ℕ) → Distinct l → Distinct m → ((x : ℕ) → List·Memᴰ x l → List·Memᴰ x m → ⊥) → Distinct (l ++ m)
@@ -102,16 +106,6 @@ distinct-apart (y ∷ l) m d x k k′ =
     (λ e. d .0 (Memᴰ·append-right l (Memᴰ·cast (sym e) k′)))
     (λ q. distinct-apart l m (d .1) x q k′)
     (List·Memᴰ·cases-cons k)
-
--- distinct elements of `m`, as many as `m` has, are all of `m`
-pub distinct-cover : (l m : List ℕ) → Distinct l → ((x : ℕ) → List·Memᴰ x l → List·Memᴰ x m) → length m ≤ length l → (y : ℕ) → List·Memᴰ y m → List·Memᴰ y l
-distinct-cover l m d s len y h = pick (decMemᴰ y l)
-  where
-    pick : Dec (List·Memᴰ y l) → List·Memᴰ y l
-    pick (yes k) = k
-    pick (no nm) =
-        let k : suc (length l) ≤ length m = distinct-within (y ∷ l) m (nm, d) (λ x q. ⊎-elim (λ e. Memᴰ·cast e h) (s x) (List·Memᴰ·cases-cons q)) in
-        absurd (omega arith)
 
 upto-below : (x n : ℕ) → List·Memᴰ x (upto n) → x < n
 unfolding upto

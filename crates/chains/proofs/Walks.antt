@@ -1,13 +1,14 @@
 -- The proof of a loop along a chain, once for all of them: a loop that carries a state along unchecked links decides whether a rule holds along them.
 -- `Rest` says what has still to hold, from the row that the loop has come to; `step` and `unstep` are one turn, `end` and `unend` the loop's end.
--- Assumes nothing.
+-- Then what follows from a rule along a chain. Assumes nothing.
 use mathlib.Core.Path.{_≡_, refl, sym}
-use mathlib.Core.Logic.{_≢_}
-use mathlib.Core.List.{List, [], _∷_}
+use mathlib.Core.Logic.{_≢_, ⊎-elim}
+use mathlib.Core.List.{List, [], _∷_, List·Memᴰ·head, List·Memᴰ·tail, List·Memᴰ·not-nil, List·Memᴰ·cases-cons}
 use Prim.Native.Nat.{ℕ, _-_, _≤_, _<_}
 use native.Mathlib.Omega.{arith}
 use lib.ListN.{length}
 use Rattle.numbers.specs.Index.{noRow}
+use Rattle.chains.specs.Lists.{_∈_}
 use Rattle.chains.specs.Chain.{firstOf}
 use Rattle.chains.specs.Walk.{rowsFrom, Ends, Holds, Walk}
 use Rattle.chains.proofs.Ends.{ends-rows, ends-length}
@@ -62,3 +63,34 @@ module _ {σ : Type 0} (nx : ℕ → ℕ) (ok : σ → ℕ → Type 0) (next : �
     unstart cur s w =
         let e : rowsFrom nx n cur ≡ w .rows = (rw (w .first) at (ends-rows nx n b n (w .rows) (w .short) (w .ends))) in
         record { starts = rw e (w .first); ends = rw e (w .ends); holds = rw e (w .holds) }
+
+-- ---- what holds along a chain
+
+holds-each : {σ : Type 0} (right : σ → ℕ → Type 0) (over : σ → ℕ → σ) (good : σ → Type 0) (P : ℕ → Type 0) → ((s : σ) (r : ℕ) → right s r → P r)
+    → (s : σ) (rows : List ℕ) → Holds right over good s rows → (x : ℕ) → x ∈ rows → P x
+holds-each right over good P f s [] h x m = absurd (List·Memᴰ·not-nil m)
+holds-each right over good P f s (r ∷ rs) h x m =
+    ⊎-elim (λ e. rw e (f s r (h .0))) (holds-each right over good P f (over s r) rs (h .1) x) (List·Memᴰ·cases-cons m)
+
+-- the rule in another state, of which the first state tells
+pub holds-view : {σ τ : Type 0} (right : σ → ℕ → Type 0) (over : σ → ℕ → σ) (good : σ → Type 0) (right′ : τ → ℕ → Type 0) (over′ : τ → ℕ → τ) (good′ : τ → Type 0)
+    (v : σ → τ) → ((s : σ) (r : ℕ) → v (over s r) ≡ over′ (v s) r) → ((s : σ) → good s → good′ (v s))
+    → (s : σ) (l : List ℕ) → ((s : σ) (r : ℕ) → r ∈ l → right s r → right′ (v s) r) → Holds right over good s l → Holds right′ over′ good′ (v s) l
+holds-view right over good right′ over′ good′ v step end s [] f h = end s h
+holds-view right over good right′ over′ good′ v step end s (r ∷ l) f h = (
+  f s r (List·Memᴰ·head refl) (h .0),
+  rw step at (holds-view right over good right′ over′ good′ v step end (over s r) l (λ t q m. f t q (List·Memᴰ·tail m)) (h .1)),
+)
+
+module _ {σ : Type 0} {nx : ℕ → ℕ} {right : σ → ℕ → Type 0} {over : σ → ℕ → σ} {good : σ → Type 0} {used at : ℕ} {s : σ} (w : Walk nx right over good used at s) where
+  -- what holds of each row of a chain, whatever the state it is met in
+  pub walk-each : (P : ℕ → Type 0) → ((s : σ) (r : ℕ) → right s r → P r) → (x : ℕ) → x ∈ rowsFrom nx used at → P x
+  walk-each P f = holds-each right over good P f s (rowsFrom nx used at) (w .holds)
+
+  -- the rule along a chain changed into another, with what is known of its rows
+  pub walk-map : (right′ : σ → ℕ → Type 0) → ((s : σ) (r : ℕ) → r ∈ rowsFrom nx used at → right s r → right′ s r) → Walk nx right′ over good used at s
+  walk-map right′ f = record {
+    starts = w .starts;
+    ends = w .ends;
+    holds = holds-view right over good right′ over good (λ s. s) (λ s r. refl) (λ s g. g) s (rowsFrom nx used at) f (w .holds);
+  }

@@ -5,7 +5,7 @@ use mathlib.Core.Bool.{Bool, true, false, _&&_}
 use mathlib.Core.List.{List, [], _∷_}
 use native.Mathlib.Omega.{arith}
 use Rattle.numbers.specs.Pick.{pick}
-use Rattle.chains.specs.Lists.{Each, Neighbours, back-onto}
+use Rattle.chains.specs.Lists.{Neighbours, back-onto}
 
 -- ---- choices
 
@@ -25,16 +25,6 @@ pick-map false A A′ B B′ f g x = g x
 pub both-true : (b c : Bool) → b && c ≡ true → (b ≡ true) × (c ≡ true)
 both-true true c e = (refl, e)
 both-true false c e = let z : _≡_ {A = ℕ} 0 1 = cc in absurd (omega arith)
-
--- ---- each element
-
-pub each-map : {A : Type 0} (P Q : A → Type 0) → ((a : A) → P a → Q a) → (xs : List A) → Each P xs → Each Q xs
-each-map P Q h [] e = tt
-each-map P Q h (x ∷ xs) e = (h x (e .0), each-map P Q h xs (e .1))
-
-pub each-both : {A : Type 0} (P Q : A → Type 0) (xs : List A) → Each P xs → Each Q xs → Each (λ a. P a × Q a) xs
-each-both P Q [] e f = tt
-each-both P Q (x ∷ xs) e f = ((e .0, f .0), each-both P Q xs (e .1) (f .1))
 
 -- ---- each element and the next
 

@@ -10,11 +10,11 @@ use lib.Dec.{eqb}
 use Rattle.numbers.specs.Pick.{pick}
 use Rattle.numbers.specs.declared.limits.Limits.{Limits}
 use Rattle.chains.specs.Lists.{Each}
+use Rattle.chains.proofs.Members.{each-map}
 use Rattle.rules.specs.Limits.{columns}
 use Rattle.rules.specs.Atlas.{Item, Shelf}
 use Rattle.rules.specs.Keeps.{Stacked, Filled}
 use Rattle.keeps.specs.Lives.{Pairs}
-use Rattle.keeps.proofs.Around.{each-map}
 
 -- ---- where items lie along a shelf
 

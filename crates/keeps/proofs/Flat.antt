@@ -2,8 +2,8 @@
 use mathlib.Core.Path.{_≡_, refl, _∙_}
 use mathlib.Core.List.{List, [], _∷_, _++_, append-assoc, append-nil}
 use Rattle.chains.specs.Lists.{Each, back-onto}
+use Rattle.chains.proofs.Members.{each-map, each-both}
 use Rattle.keeps.specs.Lives.{flat, Pairs}
-use Rattle.keeps.proofs.Around.{each-map, each-both}
 
 -- ---- around a place
 

@@ -12,6 +12,7 @@ use Rattle.numbers.specs.declared.limits.Limits.{Limits}
 use Rattle.chains.specs.Lists.{Each, Neighbours, back-onto}
 use Rattle.chains.specs.Chain.{firstRow}
 use Rattle.chains.proofs.Chains.{each-split, each-join, first-onto}
+use Rattle.chains.proofs.Members.{each-map, each-both}
 use Rattle.numbers.specs.Limits.{alongStep}
 use Rattle.rules.specs.Limits.{WithinLimits}
 use Rattle.rules.specs.Atlas.{Item, Shelf, Rows, Atlas, isEmpty}
@@ -19,7 +20,7 @@ use Rattle.rules.specs.Grant.{granted, rest-of, upperPart, lowerPart}
 use Rattle.rules.specs.Release.{freeWith, deeper, joins}
 use Rattle.rules.specs.Lies.{shelf}
 use Rattle.rules.specs.Keeps.{Stacked, Filled, NotBothFree, NotBothEmpty, AllListed, Shaped}
-use Rattle.keeps.proofs.Around.{pick-map, both-true, each-map, each-both}
+use Rattle.keeps.proofs.Around.{pick-map, both-true}
 
 -- ---- items along a shelf
 

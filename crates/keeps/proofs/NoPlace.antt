@@ -14,13 +14,14 @@ use Rattle.numbers.specs.declared.request.Asked.{Asked}
 use Rattle.chains.specs.Lists.{_∈_, _iff_, Distinct, Each, Focus}
 use Rattle.chains.proofs.Lists.{distinct-left, distinct-right, not-out}
 use Rattle.chains.proofs.Chains.{each-frame}
+use Rattle.chains.proofs.Members.{each-map, each-both}
 use Rattle.rules.specs.Atlas.{Item, Shelf, Atlas, Room}
 use Rattle.rules.specs.Search.{Held, nothing, good, bad, widthOf, firstWide, passedBy, isBadFit, holdsAny, tried, looked, isExact, walk, search}
 use Rattle.rules.specs.Grant.{shelfTaken, itemTaken, upperPart, lowerPart, Outcome, refused, grants, grant}
 use Rattle.rules.specs.Lies.{freeRows}
 use Rattle.rules.specs.Keeps.{itemRows, allItemRows, FreeListed, AllListed, Keeps}
 use Rattle.keeps.specs.Places.{NoPlace}
-use Rattle.keeps.proofs.Around.{known-no, pick-cases, each-map, each-both}
+use Rattle.keeps.proofs.Around.{known-no, pick-cases}
 use Rattle.rules.proofs.LiveRows.{free-row}
 use Rattle.keeps.proofs.Listed.{rowOf, freeOf}
 use Rattle.keeps.proofs.Granting.{place-so, grant-so}

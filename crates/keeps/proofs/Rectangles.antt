@@ -13,12 +13,13 @@ use Rattle.numbers.specs.declared.limits.Limits.{Limits}
 use Rattle.numbers.specs.declared.request.Asked.{Asked}
 use Rattle.rows.specs.declared.live.Live.{Live}
 use Rattle.chains.specs.Lists.{Each, Focus}
+use Rattle.chains.proofs.Members.{each-map, each-both}
 use Rattle.rules.specs.Limits.{xOf, yOf}
 use Rattle.rules.specs.Atlas.{Item, Shelf, Rows, Atlas, Room, liveArea, occupied}
 use Rattle.rules.specs.Grant.{upperPart, lowerPart, granted, shelfTaken, itemTaken, liveOf, place, grant}
 use Rattle.rules.specs.Keeps.{Filled, Sound, Shaped}
 use Rattle.keeps.specs.Lives.{flat, liveIn, livesOn, lives, OneMore, NoPixelShared, Pairs, Inside, Enough, area, areas}
-use Rattle.keeps.proofs.Around.{pick-cases, each-map, each-both}
+use Rattle.keeps.proofs.Around.{pick-cases}
 use Rattle.keeps.proofs.Flat.{each-flat, pairs-map, pairs-with, Across, pairs-flat}
 use Rattle.keeps.proofs.Columns.{Lying, filled-lying, Ahead, filled-ahead, Later, Placed, stacked-later, stacked-placed}
 use Rattle.keeps.proofs.Granting.{Grants, place-so, grant-so}

@@ -10,16 +10,6 @@ use Rattle.chains.proofs.Chains.{rowsOf}
 use Rattle.chains.proofs.Ends.{ends-rows, ends-length}
 use Rattle.reading.proofs.Lists.{first-map}
 
--- a walk in another state, of which the first state tells
-pub holds-view : {σ τ : Type 0} (right : σ → ℕ → Type 0) (over : σ → ℕ → σ) (good : σ → Type 0) (right′ : τ → ℕ → Type 0) (over′ : τ → ℕ → τ) (good′ : τ → Type 0)
-    (v : σ → τ) → ((s : σ) (r : ℕ) → v (over s r) ≡ over′ (v s) r) → ((s : σ) → good s → good′ (v s))
-    → (s : σ) (l : List ℕ) → ((s : σ) (r : ℕ) → r ∈ l → right s r → right′ (v s) r) → Holds right over good s l → Holds right′ over′ good′ (v s) l
-holds-view right over good right′ over′ good′ v step end s [] f h = end s h
-holds-view right over good right′ over′ good′ v step end s (r ∷ l) f h = (
-  f s r (List·Memᴰ·head refl) (h .0),
-  rw step at (holds-view right over good right′ over′ good′ v step end (over s r) l (λ t q m. f t q (List·Memᴰ·tail m)) (h .1)),
-)
-
 -- each row says something of the row before
 abbrev pub Back : (ℕ → ℕ → Type 0) → ℕ → List ℕ → Type 0
 Back says = Holds says (λ p r. r) (λ last. Unit {0})

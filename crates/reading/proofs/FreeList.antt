@@ -10,14 +10,15 @@ use Rattle.numbers.specs.Pick.{pick}
 use Rattle.rows.specs.Row.{get}
 use Rattle.rows.specs.Item.{items}
 use Rattle.rows.specs.Views.{Links, linksOf}
-use Rattle.chains.specs.Lists.{_∈_, gather}
+use Rattle.chains.specs.Lists.{_∈_, Distinct, gather}
 use Rattle.chains.specs.Chain.{Chain}
 use Rattle.chains.specs.Walk.{Ends}
 use Rattle.chains.proofs.Chains.{self}
+use Rattle.chains.proofs.Members.{gather-in, in-gather, gather-distinct}
 use Rattle.rules.specs.Atlas.{Item}
 use Rattle.rules.specs.Lies.{free, liveRows, freeRows}
 use Rattle.rules.specs.Audit.{freeNext, itemIn}
-use Rattle.reading.proofs.Lists.{gather-map, gathered, in-gather}
+use Rattle.reading.proofs.Lists.{gather-map}
 use Rattle.reading.proofs.Follow.{Back, chain-ends}
 
 -- ---- the free items and the live ones, among the items that are met
@@ -28,6 +29,10 @@ kept b r = pick b [] (r ∷ [])
 kept-in : (b : Bool) (r x : ℕ) → x ∈ kept b r → (x ≡ r) × (b ≡ false)
 kept-in true r x m = absurd (List·Memᴰ·not-nil m)
 kept-in false r x m = (List·Memᴰ·eq-of-singleton m, refl)
+
+kept-once : (b : Bool) (r : ℕ) → Distinct (kept b r)
+kept-once true r = tt
+kept-once false r = (λ m. List·Memᴰ·not-nil m, tt)
 
 in-kept : (b : Bool) (r : ℕ) → b ≡ false → r ∈ kept b r
 in-kept b r e = rw e (List·Memᴰ·head refl)
@@ -43,12 +48,16 @@ module _ (I : List ℕ) where
 
   pub free-in : (l : List ℕ) (r : ℕ) → r ∈ freeRows (map (itemIn I) l) → (r ∈ l) × (get items I r .allocated ≡ 0)
   free-in l r m =
-      let (q, k, w) = gathered (λ r. kept (live r) r) l r (rw free-are at m) in
+      let (q, k, w) = gather-in (λ r. kept (live r) r) l r (rw free-are at m) in
       let (e, b) = kept-in (live q) q r w in
       (rw e k, rw e (eqb-true (get items I q .allocated) 0 (not-false _ b)))
 
   pub in-free : (l : List ℕ) (r : ℕ) → r ∈ l → get items I r .allocated ≡ 0 → r ∈ freeRows (map (itemIn I) l)
   in-free l r m e = rw free-are (in-gather (λ r. kept (live r) r) l r r m (in-kept (live r) r (rw e)))
+
+  pub free-distinct : (l : List ℕ) → Distinct l → Distinct (freeRows (map (itemIn I) l))
+  free-distinct l d =
+      rw free-are (gather-distinct (λ r. kept (live r) r) (λ r. r) l d (λ r m. kept-once (live r) r) (λ r m x k. kept-in (live r) r x k .0))
 
   live-are : (l : List ℕ) → liveRows (map (itemIn I) l) ≡ gather (λ r. kept (not (live r)) r) l
   unfolding itemIn
@@ -60,7 +69,7 @@ module _ (I : List ℕ) where
 
   pub live-in : (l : List ℕ) (r : ℕ) → r ∈ liveRows (map (itemIn I) l) → (r ∈ l) × (get items I r .allocated ≢ 0)
   live-in l r m =
-      let (q, k, w) = gathered (λ r. kept (not (live r)) r) l r (rw live-are at m) in
+      let (q, k, w) = gather-in (λ r. kept (not (live r)) r) l r (rw live-are at m) in
       let (e, b) = kept-in (not (live q)) q r w in
       (rw e k, rw e (λ z. eqb-false (get items I q .allocated) 0 (not-true _ (not-false _ b)) z))
 

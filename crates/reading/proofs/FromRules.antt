@@ -1,5 +1,5 @@
 -- Where the seven rules hold, the atlas that is met in the tables lies there, and keeps what an atlas keeps. Assumes nothing.
-use Prim.Native.Nat.{ℕ, _+_, _≤_, _<_}
+use Prim.Native.Nat.{ℕ, _+_}
 use mathlib.Core.Path.{_≡_, refl, sym, ap, _∙_}
 use mathlib.Core.List.{List, map}
 use native.Mathlib.Omega.{arith}
@@ -11,13 +11,13 @@ use Rattle.rows.specs.Views.{linksOf}
 use Rattle.rows.specs.declared.header.Header.{Header}
 use Rattle.chains.specs.Lists.{_∈_, Each, Neighbours}
 use Rattle.chains.specs.Walk.{Ends}
-use Rattle.chains.proofs.Ends.{ends-below}
+use Rattle.chains.proofs.Members.{each-at, each-from, in-gather}
 use Rattle.rules.specs.Atlas.{Shelf, occupied}
 use Rattle.rules.specs.Lies.{noLinks, Holds, headerOf, Lies, roomIn}
 use Rattle.rules.specs.Keeps.{Filled, NotBothFree, shelfRows, allItemRows, freedRows, FreeListed, AllListed, Shared, Sound, Shaped, Keeps}
-use Rattle.rules.specs.Audit.{limitsOf, shelfNext, itemNext, shelvesMet, itemsMet, freeMet, allItemsMet, freedShelvesMet, freedItemsMet, shelfIn, freedIn, atlasIn, atTop, atLeft, oneFree, ItemRight, along, ItemsRight, FreeListRight, Rule2, Rule3, Rule5, Passes}
-use Rattle.reading.proofs.Lists.{each-at, each-from, each-map, holds-each, first-map, gathered, in-gather}
-use Rattle.reading.proofs.Once.{few-shelves, few-items}
+use Rattle.rules.specs.Audit.{limitsOf, itemNext, shelvesMet, itemsMet, freeMet, allItemsMet, freedShelvesMet, freedItemsMet, shelfIn, freedIn, atlasIn, atTop, atLeft, oneFree, ItemsRight, FreeListRight, Rule2, Rule5, Passes}
+use Rattle.reading.proofs.Lists.{each-mapped, first-map}
+use Rattle.reading.proofs.Once.{few-items, items-right, items-flagged, shelves-below, all-below}
 use Rattle.reading.proofs.Items.{items-chain, items-filled, items-apart}
 use Rattle.reading.proofs.FreeList.{free-in, in-free, live-in, free-chain}
 use Rattle.reading.proofs.Shelves.{one-free, Heads, shelves-chain, shelves-stacked, shelves-apart}
@@ -28,9 +28,8 @@ module _ (h : Header) (S I : List ℕ) (p : Passes h S I) where
   -- ---- one shelf
 
   module _ (on : ℕ) (m : on ∈ shelvesMet h S) where
-    items-right : ItemsRight h S I on
-    unfolding Rule3
-    items-right = each-at (ItemsRight h S I) (shelvesMet h S) (p .rule3) on m
+    right : ItemsRight h S I on
+    right = items-right (p .rule1) (p .rule3) on m
 
     list-right : FreeListRight h S I on
     unfolding Rule5
@@ -38,31 +37,25 @@ module _ (h : Header) (S I : List ℕ) (p : Passes h S I) where
 
     items-end : Ends (itemNext I) (h .«used_items») (itemsMet h S I on)
     unfolding ItemsRight itemsMet
-    items-end = items-right .ends
+    items-end = right .ends
 
     heads : Heads h S I on
     unfolding ItemsRight itemsMet freeMet shelfIn
     heads = record {
-      first-item = sym (items-right .starts);
+      first-item = sym (right .starts);
       first-free = sym (list-right .linked .starts);
-      empty = ap (oneFree h I) (sym (items-right .starts)) ∙ one-free h I (itemsMet h S I on) (few-items h S I (p .rule1)) items-end;
+      empty = ap (oneFree h I) (sym (right .starts)) ∙ one-free h I (itemsMet h S I on) (few-items (p .rule1)) items-end;
     }
-
-    some-flag : (r : ℕ) → r ∈ itemsMet h S I on → get items I r .allocated ≤ 1
-    unfolding ItemsRight itemsMet
-    some-flag =
-        holds-each (λ d q. ItemRight h on d (get items I q)) (λ d q. along d q (get items I q)) _ (λ q. get items I q .allocated ≤ 1) (λ d q o. o .flag-right)
-        (atLeft (get shelves S on)) (itemsMet h S I on) (items-right .holds)
 
     shelf-holds : Holds I (shelfIn h S I on)
     unfolding ItemsRight itemsMet freeMet shelfIn allItemsMet
     shelf-holds = record {
-      in-order = items-chain h I on (h .«used_items») (get shelves S on .x + h .«shelf_width») (atLeft (get shelves S on)) (itemsMet h S I on) items-end (items-right .holds);
+      in-order = items-chain h I on (h .«used_items») (get shelves S on .x + h .«shelf_width») (atLeft (get shelves S on)) (itemsMet h S I on) items-end (right .holds);
       free-order = free-chain I (h .«used_items») noRow (freeMet h S I on) (list-right .linked .ends) (list-right .linked .holds);
       live-unlinked = λ r k.
           let (w, n) = live-in I (itemsMet h S I on) r k in
           each-at (λ r. get items I r .allocated ≡ 1 → linksOf (get items I r) ≡ noLinks) (allItemsMet h S I) (p .rule7 .live-unlinked) r
-          (in-gather (itemsMet h S I) (shelvesMet h S) on r m w) (omega (arith, some-flag r w));
+          (in-gather (itemsMet h S I) (shelvesMet h S) on r m w) (omega (arith, items-flagged (p .rule1) (p .rule3) on m r w));
     }
 
   -- ---- the whole
@@ -84,22 +77,16 @@ module _ (h : Header) (S I : List ℕ) (p : Passes h S I) where
       occupied = (p .rule7 .occupied ∙ sym (occupied-area h S I (shelvesMet h S))) z;
     };
     shelf-chain = shelves-chain h S I atTop (shelvesMet h S) heads (p .rule2 .ends) (p .rule2 .holds);
-    shelf-items = each-map (shelfIn h S I) (Holds I) (shelvesMet h S) (each-from (λ r. Holds I (shelfIn h S I r)) (shelvesMet h S) shelf-holds);
+    shelf-items = each-mapped (shelfIn h S I) (Holds I) (shelvesMet h S) (each-from (shelvesMet h S) shelf-holds);
     freed-shelves = freed-shelf-chain S (h .«used_shelves») noRow (freedShelvesMet h S) (p .rule6 .shelves-freed .ends) (p .rule7 .freed-shelves-zero);
     freed-items = freed-item-chain I (h .«used_items») noRow (freedItemsMet h I) (p .rule6 .items-freed .ends) (p .rule7 .freed-items-zero);
   }
-
-  all-below : (r : ℕ) → r ∈ allItemsMet h S I → r < h .«used_items»
-  unfolding allItemsMet
-  all-below r m =
-      let (on, k, w) = gathered (itemsMet h S I) (shelvesMet h S) r m in
-      ends-below (itemNext I) (h .«used_items») (few-items h S I (p .rule1)) (itemsMet h S I on) (items-end on k) r w
 
   shared-shelves : Shared (h .«used_shelves») (shelfRows (map (shelfIn h S I) (shelvesMet h S))) (freedShelvesMet h S)
   unfolding Rule2 shelvesMet freedShelvesMet
   shared-shelves = rw shelves-serving (record {
     serving-once = p .rule4 .shelves-once;
-    serving-used = ends-below (shelfNext S) (h .«used_shelves») (few-shelves h S I (p .rule1)) (shelvesMet h S) (p .rule2 .ends);
+    serving-used = shelves-below (p .rule1) (p .rule2);
     freed-once = p .rule6 .shelves-freed .once;
     freed-exactly = p .rule6 .shelves-freed .exactly;
   })
@@ -108,14 +95,14 @@ module _ (h : Header) (S I : List ℕ) (p : Passes h S I) where
   unfolding freedItemsMet
   shared-items = rw (all-serving, freed-serving) (record {
     serving-once = p .rule4 .items-once;
-    serving-used = all-below;
+    serving-used = all-below (p .rule1) (p .rule3);
     freed-once = p .rule6 .items-freed .once;
     freed-exactly = p .rule6 .items-freed .exactly;
   })
 
   -- what is asked of each shelf, once it is shown for each row that is met
   each-shelf : (P : Shelf → Type 0) → ((on : ℕ) → on ∈ shelvesMet h S → P (shelfIn h S I on)) → Each P (map (shelfIn h S I) (shelvesMet h S))
-  each-shelf P f = each-map (shelfIn h S I) P (shelvesMet h S) (each-from (λ on. P (shelfIn h S I on)) (shelvesMet h S) f)
+  each-shelf P f = each-mapped (shelfIn h S I) P (shelvesMet h S) (each-from (shelvesMet h S) f)
 
   sound : Sound (roomIn S I) (atlasIn h S I)
   unfolding roomIn atlasIn shelfIn
@@ -137,8 +124,8 @@ module _ (h : Header) (S I : List ℕ) (p : Passes h S I) where
     stacked = shelves-stacked h S I atTop (shelvesMet h S) (p .rule2 .holds);
     empty-apart = shelves-apart h S I atTop (shelvesMet h S) (p .rule1 .limits .S-least) heads (p .rule2 .holds);
     filled = each-shelf (λ s. Filled (limitsOf h) (s .x) (s .x + h .«shelf_width») (s .items))
-        (λ on m. items-filled h I on _ (atLeft (get shelves S on)) (itemsMet h S I on) (items-right on m .holds));
-    free-apart = each-shelf (λ s. Neighbours NotBothFree (s .items)) (λ on m. items-apart h I on _ (atLeft (get shelves S on)) (itemsMet h S I on) (items-right on m .holds));
+        (λ on m. items-filled h I on _ (atLeft (get shelves S on)) (itemsMet h S I on) (right on m .holds));
+    free-apart = each-shelf (λ s. Neighbours NotBothFree (s .items)) (λ on m. items-apart h I on _ (atLeft (get shelves S on)) (itemsMet h S I on) (right on m .holds));
     all-listed = each-shelf AllListed (λ on m r k. list-right on m .exactly r .1 (free-in I (itemsMet h S I on) r k));
   }
 

@@ -13,13 +13,14 @@ use Rattle.rows.specs.declared.header.Header.{Header}
 use Rattle.chains.specs.Lists.{Neighbours}
 use Rattle.chains.specs.Chain.{Chain}
 use Rattle.chains.specs.Walk.{Ends, Holds}
+use Rattle.chains.proofs.Walks.{holds-view}
 use Rattle.numbers.specs.Limits.{alongStep}
 use Rattle.rules.specs.Atlas.{Item}
 use Rattle.rules.specs.Lies.{item}
 use Rattle.rules.specs.Keeps.{Filled, NotBothFree}
 use Rattle.rules.specs.Audit.{limitsOf, itemNext, itemIn, Along, ItemRight, along}
 use Rattle.reading.proofs.Flags.{flag-read, flag-most}
-use Rattle.reading.proofs.Follow.{holds-view, chain-map}
+use Rattle.reading.proofs.Follow.{chain-map}
 
 module _ (h : Header) (I : List ℕ) (on : ℕ) where
   abbrev Right : Along → ℕ → Type 0

@@ -35,7 +35,7 @@ module _ (h : Header) (S I : List ℕ) where
 
   -- rule 4 follows from the rules before it
   pub no-row-twice : Rule1 h S I → Rule2 h S I → Rule3 h S I → Rule4 h S I
-  no-row-twice one two three = once.no-row-twice h S I one two three
+  no-row-twice one two three = once.no-row-twice one two three
 
 -- an atlas says every number that an audit of tables in which it lies reads
 pub determined : (h h′ : Header) (S S′ I I′ : List ℕ) (room : Room) (a : Atlas) → Lies h S I a → Lies h′ S′ I′ a → Keeps room a → SameUsed h h′ S S′ I I′

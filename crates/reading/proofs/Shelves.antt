@@ -16,6 +16,7 @@ use Rattle.rows.specs.declared.shelf.ShelfRow.{ShelfRow}
 use Rattle.chains.specs.Lists.{_∈_, _iff_, Neighbours}
 use Rattle.chains.specs.Chain.{firstOf, Chain}
 use Rattle.chains.specs.Walk.{Ends, Holds}
+use Rattle.chains.proofs.Walks.{holds-view}
 use Rattle.rules.specs.Atlas.{Shelf, isEmpty}
 use Rattle.rules.specs.Release.{joins}
 use Rattle.rules.specs.Lies.{flag, shelf}
@@ -23,7 +24,7 @@ use Rattle.rules.specs.Keeps.{Stacked, NotBothEmpty}
 use Rattle.rules.specs.Audit.{limitsOf, shelfNext, itemNext, itemsMet, freeMet, itemIn, shelfIn, Down, oneFree, ShelfRight, down, atTop, AllColumns}
 use Rattle.reading.proofs.Lists.{first-map}
 use Rattle.rules.proofs.Flags.{flag-one}
-use Rattle.reading.proofs.Follow.{holds-view, chain-map}
+use Rattle.reading.proofs.Follow.{chain-map}
 
 -- "its first item is a used row, free, with no next", of rows that end: the items read from them are one free item
 pub one-free : (h : Header) (I l : List ℕ) → h .«used_items» ≤ noRow → Ends (itemNext I) (h .«used_items») l → oneFree h I (firstOf l) ≡ isEmpty (map (itemIn I) l)

@@ -13,11 +13,12 @@ use Rattle.rows.specs.declared.shelf.ShelfRow.{ShelfRow}
 use Rattle.chains.specs.Lists.{_∈_, Each, Neighbours}
 use Rattle.chains.specs.Chain.{firstOf}
 use Rattle.chains.specs.Walk.{Ends}
+use Rattle.chains.proofs.Members.{each-at, each-from, gather-in, in-gather}
 use Rattle.rules.specs.Atlas.{Shelf}
 use Rattle.rules.specs.Lies.{item, shelf, freedItem, noLinks, Holds, headerOf, Lies, roomIn}
 use Rattle.rules.specs.Keeps.{Filled, NotBothFree, FreeListed, AllListed, Shared, Keeps}
 use Rattle.rules.specs.Audit.{limitsOf, shelfNext, itemNext, shelvesMet, itemsMet, freeMet, allItemsMet, freedShelvesMet, freedItemsMet, itemIn, shelfIn, freedIn, atlasIn, oneFree, ItemsRight, FreeListRight, Rule1, Rule2, Rule3, Rule5, Rule6, Rule7, Passes}
-use Rattle.reading.proofs.Lists.{each-at, each-from, each-unmap, first-map, gathered, in-gather}
+use Rattle.reading.proofs.Lists.{each-unmapped, first-map}
 use Rattle.reading.proofs.Once.{few-items}
 use Rattle.reading.proofs.Follow.{Says, chain-says, chain-ends}
 use Rattle.reading.proofs.Items.{item-names, items-hold}
@@ -42,7 +43,7 @@ module _ (h : Header) (S I : List ℕ) (l : Lies h S I (atlasIn h S I)) (k : Kee
   -- what holds of each shelf, at a row that is met
   at-shelf : (P : Shelf → Type 0) → Each P (atlasIn h S I .shelves) → (on : ℕ) → on ∈ shelvesMet h S → P (shelfIn h S I on)
   unfolding atlasIn
-  at-shelf P e on m = each-at (λ r. P (shelfIn h S I r)) (shelvesMet h S) (each-unmap (shelfIn h S I) P (shelvesMet h S) e) on m
+  at-shelf P e on m = each-at (λ r. P (shelfIn h S I r)) (shelvesMet h S) (each-unmapped (shelfIn h S I) P (shelvesMet h S) e) on m
 
   -- ---- one shelf
 
@@ -77,7 +78,7 @@ module _ (h : Header) (S I : List ℕ) (l : Lies h S I (atlasIn h S I)) (k : Kee
     heads = record {
       first-item = first-item;
       first-free = first-free;
-      empty = ap (oneFree h I) first-item ∙ one-free h I (itemsMet h S I on) (few-items h S I rule1) items-end;
+      empty = ap (oneFree h I) first-item ∙ one-free h I (itemsMet h S I on) (few-items rule1) items-end;
     }
 
     items-right : ItemsRight h S I on
@@ -122,11 +123,11 @@ module _ (h : Header) (S I : List ℕ) (l : Lies h S I (atlasIn h S I)) (k : Kee
 
   rule3 : Rule3 h S I
   unfolding Rule3
-  rule3 = each-from (ItemsRight h S I) (shelvesMet h S) items-right
+  rule3 = each-from (shelvesMet h S) items-right
 
   rule5 : Rule5 h S I
   unfolding Rule5
-  rule5 = each-from (FreeListRight h S I) (shelvesMet h S) list-right
+  rule5 = each-from (shelvesMet h S) list-right
 
   freed-shelves-end : Ends (shelfNext S) (h .«used_shelves») (freedShelvesMet h S)
   unfolding atlasIn
@@ -159,7 +160,7 @@ module _ (h : Header) (S I : List ℕ) (l : Lies h S I (atlasIn h S I)) (k : Kee
   unfolding headerOf atlasIn allItemsMet
   rule7 = record {
     occupied = ap (λ (q : Header). q .occupied) (l .header) ∙ occupied-area h S I (shelvesMet h S);
-    live-unlinked = each-from _ (allItemsMet h S I) (λ r w. let (on, m, v) = gathered (itemsMet h S I) (shelvesMet h S) r w in unlinked on m r v);
+    live-unlinked = each-from (allItemsMet h S I) (λ r w. let (on, m, v) = gather-in (itemsMet h S I) (shelvesMet h S) r w in unlinked on m r v);
     freed-shelves-zero = freed-shelf-zero S noRow (freedShelvesMet h S) (l .freed-shelves);
     freed-items-zero = freed-item-zero I noRow (freedItemsMet h I) (l .freed-items);
   }

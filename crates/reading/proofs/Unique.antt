@@ -17,12 +17,13 @@ use Rattle.rows.specs.declared.shelf.ShelfRow.{ShelfRow}
 use Rattle.chains.specs.Lists.{_∈_, Each}
 use Rattle.chains.specs.Walk.{rowsFrom}
 use Rattle.chains.proofs.Chains.{self, each-frame}
+use Rattle.chains.proofs.Members.{each-map, each-both}
 use Rattle.rules.specs.Atlas.{Item, Shelf, Freed, Atlas}
 use Rattle.rules.specs.Lies.{item, free, shelf, freedShelf, freedItem, Holds, headerOf, Lies, roomIn}
 use Rattle.rules.proofs.LiveRows.{free-row}
 use Rattle.rules.specs.Keeps.{itemRows, FreeListed, Keeps}
 use Rattle.rules.specs.Audit.{limitsOf, shelfNext, itemNext, freeNext, shelvesMet, itemsMet, freeMet, freedShelvesMet, freedItemsMet, itemIn, shelfIn, freedIn, atlasIn}
-use Rattle.reading.proofs.Lists.{each-both, read-all}
+use Rattle.reading.proofs.Lists.{read-all}
 use Rattle.reading.proofs.Follow.{Says, chain-each, chain-says, chain-met}
 use Rattle.reading.proofs.Flags.{flag-live}
 use Rattle.reading.proofs.Items.{item-names}
@@ -46,8 +47,6 @@ freed-read : (I : List ℕ) (f : Freed) (p n : ℕ) → get items I (f .row) ≡
 unfolding freedIn freedItemRow withItemNext withGeneration
 freed-read I f p n e = λ z. record { row = f .row; generation = ap (λ (v : ItemRow). v .generation) e z }
 
--- ---- a free row of these items is one of their rows
-
 -- ---- the whole, at the header that the atlas gives
 
 module _ (S I : List ℕ) (a : Atlas) (l : Lies (headerOf a) S I a) (k : Keeps (roomIn S I) a) where
@@ -67,9 +66,9 @@ module _ (S I : List ℕ) (a : Atlas) (l : Lies (headerOf a) S I a) (k : Keeps (
 
   said : Each Said (a .shelves)
   said =
-      each-both (Says shelf (get shelves S)) (λ s. Holds I s × FreeListed s) Said (λ s r q. record { row = r; holds = q .0; listed = q .1 }) (a .shelves)
-      (chain-says shelf (get shelves S) noRow (a .shelves) (l .shelf-chain))
-      (each-both (Holds I) FreeListed (λ s. Holds I s × FreeListed s) (λ s p q. (p, q)) (a .shelves) (l .shelf-items) (k .sound .free-listed))
+      each-map (λ s. Says shelf (get shelves S) s × (Holds I s × FreeListed s)) Said (λ s q. record { row = q .0; holds = q .1 .0; listed = q .1 .1 }) (a .shelves)
+      (each-both (Says shelf (get shelves S)) (λ s. Holds I s × FreeListed s) (a .shelves) (chain-says shelf (get shelves S) noRow (a .shelves) (l .shelf-chain))
+      (each-both (Holds I) FreeListed (a .shelves) (l .shelf-items) (k .sound .free-listed)))
 
   module _ (s : Shelf) (w : Said s) (b : (r : ℕ) → r ∈ itemRows (s .items) → r < a .rows .items .used) where
     items-are : map (itemIn I) (itemsMet (headerOf a) S I (s .row)) ≡ s .items

@@ -4,7 +4,8 @@ use native.Mathlib.Omega.{arith}
 use borrow.Author.Tests.{eqb-true, eq-eqb}
 use lib.Dec.{eqb}
 use Rattle.numbers.specs.Decides.{never, refuted, denied, granted}
-use Rattle.audit.proofs.Turns.{ended, unended, last-ended, sum-ended}
+use Rattle.chains.proofs.Turns.{ended, unended, last-ended}
+use Rattle.audit.proofs.Sums.{sum-ended}
 use Rattle.audit.proofs.ItemTurns.{Going, going-begins, going-wrong, going-outside, unfree, past-free, two-free, past-live}
 use Rattle.audit.proofs.items.items_of.Statement.{statement}
 use Rattle.audit.proofs.items.items_of.Tie as tie

@@ -3,7 +3,7 @@ use Prim.Native.Nat.{_-_}
 use mathlib.Core.Path.{refl}
 use native.Mathlib.Omega.{arith}
 use Rattle.numbers.specs.Decides.{never, refuted, denied, granted}
-use Rattle.audit.proofs.Turns.{no-fuel, outside, unended, last-ended}
+use Rattle.chains.proofs.Turns.{no-fuel, outside, unended, last-ended}
 use Rattle.audit.proofs.ListTurns.{AtFreedItem, freed-items-begin, wrong-freed-item, past-freed-item}
 use Rattle.audit.proofs.lists.freed_items.Statement.{statement}
 use Rattle.audit.proofs.lists.freed_items.Tie as tie

@@ -4,7 +4,7 @@ use mathlib.Core.Path.{sym, _∙_}
 use native.Mathlib.Omega.{arith}
 use borrow.Author.Tests.{eqb-true, eq-eqb}
 use Rattle.numbers.specs.Decides.{refuted, denied, granted}
-use Rattle.audit.proofs.Turns.{no-fuel, outside, ended, unended}
+use Rattle.chains.proofs.Turns.{no-fuel, outside, ended, unended}
 use Rattle.audit.proofs.ShelfTurns.{AtShelf, at-top, wrong-shelf, next-column, same-column, columns-are}
 use Rattle.audit.proofs.shelves.shelves_right.Statement.{statement}
 use Rattle.audit.proofs.shelves.shelves_right.Tie as tie

@@ -1,17 +1,16 @@
--- The loops of the audit, turn by turn: one that decides whether a rule holds along a chain (`Deciding`), and one that adds up along the rows that
--- it meets (`Summing`). Assumes nothing.
+-- Loops along a chain, turn by turn: one that decides whether a rule holds along it (`Deciding`), one that asks something of each row by itself
+-- (`Eaching`), and one that counts its steps down (`Lasting`). Assumes nothing.
 use mathlib.Core.Path.{_≡_, refl}
 use mathlib.Core.Logic.{_≢_}
-use mathlib.Core.List.{List, [], _∷_, _++_}
+use mathlib.Core.List.{[], _∷_}
 use Prim.Native.Nat.{ℕ, zero, suc, _+_, _-_, _≤_, _<_}
 use native.Mathlib.Omega.{arith}
 use borrow.Author.Tests.{eq-eqb, ne-eqb}
-use lib.ListN.{length, length-append}
+use lib.ListN.{length}
 use Rattle.numbers.specs.Index.{noRow}
-use Rattle.chains.specs.Lists.{gather}
+use Rattle.chains.specs.Lists.{Each}
 use Rattle.chains.specs.Walk.{rowsFrom, Walk}
 use Rattle.chains.proofs.Walks.{Rest, Step, step, unstep, end, unend, start, unstart}
-use Rattle.rules.specs.Audit.{sumOver}
 
 -- ---- deciding
 
@@ -63,31 +62,35 @@ pub met-out : (nx : ℕ → ℕ) (fuel cur : ℕ) → fuel ≡ 0 → rowsFrom nx
 met-out nx zero cur e = refl
 met-out nx (suc fuel) cur e = absurd (omega arith)
 
--- ---- adding up
+-- ---- a rule for each row by itself
 
--- so far `sum`; with what f gives for the rows still to be met it is `total`
-pub record Summing (f nx : ℕ → ℕ) (total cur fuel sum : ℕ) : Type 0 where
-  pub adds : sum + sumOver f (rowsFrom nx fuel cur) ≡ total
+-- `A` holds exactly when each of the rows still to be met has P
+pub record Eaching (P : ℕ → Type 0) (nx : ℕ → ℕ) (A : Type 0) (cur fuel : ℕ) : Type 0 where
+  pub ahead : A → Each P (rowsFrom nx fuel cur)
+  pub back : Each P (rowsFrom nx fuel cur) → A
 
-pub sums : {f nx : ℕ → ℕ} {cur fuel : ℕ} → Summing f nx (sumOver f (rowsFrom nx fuel cur)) cur fuel 0
-sums = record { adds = omega arith }
+pub each-begins : {P : ℕ → Type 0} {nx : ℕ → ℕ} {cur fuel : ℕ} → Eaching P nx (Each P (rowsFrom nx fuel cur)) cur fuel
+each-begins = record { ahead = λ a. a; back = λ a. a }
 
-module _ {f nx : ℕ → ℕ} {total cur fuel sum : ℕ} (s : Summing f nx total cur fuel sum) where
-  pub summed : cur ≢ noRow → 1 ≤ fuel → Summing f nx total (nx cur) (fuel - 1) (sum + f cur)
-  summed ne h = let e : sum + sumOver f (cur ∷ rowsFrom nx (fuel - 1) (nx cur)) ≡ total = rw (met-step nx fuel cur ne h) at (s .adds) in
-      record { adds = omega arith }
+module _ {P : ℕ → Type 0} {nx : ℕ → ℕ} {A : Type 0} {cur fuel : ℕ} (d : Eaching P nx A cur fuel) where
+  here : cur ≢ noRow → 1 ≤ fuel → A → P cur × Each P (rowsFrom nx (fuel - 1) (nx cur))
+  here ne f a = rw (met-step nx fuel cur ne f, Each) at (d .ahead a)
 
-  -- the same, with the row's part and the next row as the loop has them
-  pub summed-as : {v q : ℕ} → cur ≢ noRow → 1 ≤ fuel → v ≡ f cur → q ≡ nx cur → Summing f nx total q (fuel - 1) (sum + v)
-  summed-as ne h e e′ = rw (e, e′) (summed ne h)
+  pub each-wrong : cur ≢ noRow → 1 ≤ fuel → (P cur → ⊥) → A → ⊥
+  each-wrong ne f n a = n (here ne f a .0)
 
-  pub sum-ended : cur ≡ noRow → sum ≡ total
-  sum-ended q = let e : sum + 0 ≡ total = rw (met-end nx fuel cur q, sumOver) at (s .adds) in omega arith
+  pub each-onward : cur ≢ noRow → 1 ≤ fuel → P cur → Eaching P nx A (nx cur) (fuel - 1)
+  each-onward ne f p = record { ahead = λ a. here ne f a .1; back = λ r. d .back (rw (met-step nx fuel cur ne f, Each) (p, r)) }
 
-  pub sum-out : fuel ≡ 0 → sum ≡ total
-  sum-out q = let e : sum + 0 ≡ total = rw (met-out nx fuel cur q, sumOver) at (s .adds) in omega arith
+  pub each-ended : cur ≡ noRow → A
+  each-ended e = d .back (rw (met-end nx fuel cur e, Each) tt)
 
--- counting down: of `n` steps so many are left, and so many rows of `total` are still to be met
+  pub each-out : fuel ≡ 0 → A
+  each-out e = d .back (rw (met-out nx fuel cur e, Each) tt)
+
+-- ---- counting down
+
+-- of `n` steps so many are left, and so many rows of `total` are still to be met
 pub record Lasting (nx : ℕ → ℕ) (n total cur fuel : ℕ) : Type 0 where
   pub left : fuel + total ≡ n + length (rowsFrom nx fuel cur)
 
@@ -101,21 +104,3 @@ module _ {nx : ℕ → ℕ} {n total cur fuel : ℕ} (s : Lasting nx n total cur
 
   pub last-ended : cur ≡ noRow → fuel + total ≡ n
   last-ended q = let e : fuel + total ≡ n + 0 = rw (met-end nx fuel cur q, length) at (s .left) in omega arith
-
--- ---- sums over lists
-
-pub length-sum : (rows : List ℕ) → length rows ≡ sumOver (λ r. 1) rows
-length-sum [] = refl
-length-sum (r ∷ rs) = omega (arith, length-sum rs)
-
-pub length-gather : (f : ℕ → List ℕ) (rows : List ℕ) → length (gather f rows) ≡ sumOver (λ r. length (f r)) rows
-length-gather f [] = refl
-length-gather f (r ∷ rs) = omega (arith, length-gather f rs, length-append (f r) (gather f rs))
-
-pub sum-append : (g : ℕ → ℕ) (l m : List ℕ) → sumOver g (l ++ m) ≡ sumOver g l + sumOver g m
-sum-append g [] m = omega arith
-sum-append g (x ∷ l) m = omega (arith, sum-append g l m)
-
-pub sum-gather : (g : ℕ → ℕ) (f : ℕ → List ℕ) (rows : List ℕ) → sumOver g (gather f rows) ≡ sumOver (λ r. sumOver g (f r)) rows
-sum-gather g f [] = refl
-sum-gather g f (r ∷ rs) = omega (arith, sum-gather g f rs, sum-append g (f r) (gather f rs))
