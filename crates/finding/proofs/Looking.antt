@@ -27,7 +27,8 @@ use Rattle.rules.specs.Audit.{limitsOf}
 use Rattle.rules.specs.Release.{Found, find, names, findLive}
 use Rattle.rules.specs.Lies.{flag, item, shelf, freedItem, Holds, Lies, headerOf, roomIn}
 use Rattle.rules.specs.Keeps.{itemRows, allItemRows, freedRows, Keeps, Sound}
-use Rattle.keeps.proofs.Around.{pick-cases, both-true}
+use Rattle.numbers.specs.Tests.{both}
+use Rattle.keeps.proofs.Around.{pick-cases}
 use Rattle.keeps.proofs.Finding.{FoundAt, find-at}
 use Rattle.steps.specs.Wrap.{plus16-is}
 use Rattle.steps.specs.Live as table
@@ -126,7 +127,7 @@ module _ (h : Header) (S I : List ℕ) (a : Atlas) (lies : Lies h S I a) (keeps 
   named-live : (row generation : ℕ) (w : Found) → names row generation (w .item .this) ≡ true → w .item .this .live ≡ true
   unfolding names
   named-live row generation w e =
-      both-true (eqb row (w .item .this .row) && eqb generation (w .item .this .generation)) (w .item .this .live) e .1
+      both (eqb row (w .item .this .row) && eqb generation (w .item .this .generation)) (w .item .this .live) e .1
 
   -- the id names no live item, or this one
   abbrev pub LiveSays : ℕ → ℕ → Option Found → Type 0

@@ -1,9 +1,7 @@
 -- Lists around a place in them: what each element and the next have, while one changes or two become one. Assumes nothing.
-use Prim.Native.Nat.{ℕ}
 use mathlib.Core.Path.{_≡_, refl}
-use mathlib.Core.Bool.{Bool, true, false, _&&_}
+use mathlib.Core.Bool.{Bool, true, false}
 use mathlib.Core.List.{List, [], _∷_}
-use native.Mathlib.Omega.{arith}
 use Rattle.numbers.specs.Pick.{pick}
 use Rattle.chains.specs.Lists.{Neighbours, back-onto}
 
@@ -21,10 +19,6 @@ pick-cases P false x y f g = g refl
 pub pick-map : (b : Bool) (A A′ B B′ : Type 0) → (A → A′) → (B → B′) → pick b A B → pick b A′ B′
 pick-map true A A′ B B′ f g x = f x
 pick-map false A A′ B B′ f g x = g x
-
-pub both-true : (b c : Bool) → b && c ≡ true → (b ≡ true) × (c ≡ true)
-both-true true c e = (refl, e)
-both-true false c e = let z : _≡_ {A = ℕ} 0 1 = cc in absurd (omega arith)
 
 -- ---- each element and the next
 

@@ -20,7 +20,8 @@ use Rattle.rules.specs.Grant.{granted, rest-of, upperPart, lowerPart}
 use Rattle.rules.specs.Release.{freeWith, deeper, joins}
 use Rattle.rules.specs.Lies.{shelf}
 use Rattle.rules.specs.Keeps.{Stacked, Filled, NotBothFree, NotBothEmpty, AllListed, Shaped}
-use Rattle.keeps.proofs.Around.{pick-map, both-true}
+use Rattle.numbers.specs.Tests.{both}
+use Rattle.keeps.proofs.Around.{pick-map}
 
 -- ---- items along a shelf
 
@@ -107,8 +108,8 @@ joins-after s t e = rw e
 pub joins-true : (s t : Shelf) → joins s t ≡ true → (isEmpty (s .items) ≡ true) × (isEmpty (t .items) ≡ true) × (s .x ≡ t .x)
 unfolding joins
 joins-true s t e =
-    let (both, x) = both-true (isEmpty (s .items) && isEmpty (t .items)) (eqb (s .x) (t .x)) e in
-    let (es, et) = both-true (isEmpty (s .items)) (isEmpty (t .items)) both in
+    let (empties, x) = both (isEmpty (s .items) && isEmpty (t .items)) (eqb (s .x) (t .x)) e in
+    let (es, et) = both (isEmpty (s .items)) (isEmpty (t .items)) empties in
     (es, et, eqb-true (s .x) (t .x) x)
 
 -- what joins a shelf joins another that is as empty and in the same column

@@ -19,7 +19,8 @@ use Rattle.rules.specs.Grant.{newItemRow, splitsShelf, upperPart, lowerPart, sp
 use Rattle.rules.specs.Lies.{freeRows}
 use Rattle.rules.specs.Keeps.{Stacked, Filled, NotBothFree, NotBothEmpty, Shaped, Keeps}
 use Rattle.keeps.specs.Places.{Spot, Chosen}
-use Rattle.keeps.proofs.Around.{both-true, Behind, neighbours-split, neighbours-join, neighbours-after, behind-map, behind-any, ahead-map, ahead-any}
+use Rattle.numbers.specs.Tests.{both}
+use Rattle.keeps.proofs.Around.{Behind, neighbours-split, neighbours-join, neighbours-after, behind-map, behind-any, ahead-map, ahead-any}
 use Rattle.keeps.proofs.Geometry.{filled-onto, filled-part, stacked-split, joins-before, joins-after, joins-alike, joined-alike, Right, Laid, laid, shaped, laid-at}
 use Rattle.rules.proofs.LiveRows.{free-row}
 use Rattle.keeps.proofs.Listed.{rowOf, freeOf, stays-listed, new-listed}
@@ -144,7 +145,7 @@ module _ (a : Atlas) (asked : Asked) (lim : WithinLimits (a .limits)) (fits : Wi
     split-shaped f w c e =
         let s : Shelf = f .this in
         let d : ℕ = asked .depth in
-        let (empty, large) = both-true (isEmpty (s .items)) (ltb (d + 8) (s .depth)) e in
+        let (empty, large) = both (isEmpty (s .items)) (ltb (d + 8) (s .depth)) e in
         let less : d < s .depth = omega (arith, ltb-true (d + 8) (s .depth) large) in
         placed (record { before = f .before; this = upperPart d s; after = f .after }) w (lowerPart (a .limits) (a .rows) d s ∷ f .after) (itemTaken (shelfTaken (a .rows)))
         (record { stands = c .spot .stands; once = c .spot .once; listed = c .spot .listed; free = c .spot .free })

@@ -20,7 +20,7 @@ use Rattle.rules.specs.Release.{Found, names, findLive, releaseFound}
 use Rattle.rules.specs.Keeps.{Sound, Shaped, Keeps}
 use Rattle.keeps.specs.Places.{Fits, Chosen, NoPlace}
 use Rattle.keeps.specs.Lives.{lives, OneMore, NoPixelShared, Pairs, Inside, Enough, area, areas}
-use Rattle.keeps.proofs.Around.{both-true}
+use Rattle.numbers.specs.Tests.{both}
 use Rattle.keeps.proofs.Fresh.{rows-sound, fresh-shape}
 use Rattle.keeps.proofs.Finding.{Holding, search-holding, FoundLive, find-live}
 use Rattle.keeps.proofs.Granting.{fits-found, granted-so}
@@ -96,8 +96,8 @@ pub release-lives : (a : Atlas) (row generation : ℕ) (w : Found) → findLive 
 unfolding liveOf names
 release-lives a row generation w e =
     let found : FoundLive row generation (a .shelves) (some w) = subst (FoundLive row generation (a .shelves)) e (find-live a row generation) in
-    let (same, live) = both-true (eqb row (w .item .this .row) && eqb generation (w .item .this .generation)) (w .item .this .live) (found .1) in
-    let (r, g) = both-true (eqb row (w .item .this .row)) (eqb generation (w .item .this .generation)) same in
+    let (same, live) = both (eqb row (w .item .this .row) && eqb generation (w .item .this .generation)) (w .item .this .live) (found .1) in
+    let (r, g) = both (eqb row (w .item .this .row)) (eqb generation (w .item .this .generation)) same in
     (sym (eqb-true row (w .item .this .row) r), sym (eqb-true generation (w .item .this .generation) g), release-takes a row w (found .0) live)
 
 -- ---- occupied

@@ -17,7 +17,7 @@ use Rattle.rules.specs.Release.{Loose, Stack, Found, freeWith, deeper, joins, m
 use Rattle.rules.specs.Keeps.{Sound}
 use Rattle.keeps.specs.Places.{Spot}
 use Rattle.keeps.specs.Lives.{flat, liveIn, livesOn, lives, OneMore}
-use Rattle.keeps.proofs.Around.{both-true}
+use Rattle.numbers.specs.Tests.{both}
 use Rattle.keeps.proofs.Flat.{flat-onto, flat-same}
 use Rattle.keeps.proofs.Geometry.{joins-true}
 use Rattle.keeps.proofs.Finding.{FoundAt}
@@ -91,7 +91,7 @@ module _ (a : Atlas) (asked : Asked) where
       → flat (livesOn (a .limits)) (back-onto bs (s ∷ ys)) ≡ flat (livesOn (a .limits)) (back-onto bs (upperPart (asked .depth) s ∷ lowerPart (a .limits) (a .rows) (asked .depth) s ∷ ys))
   unfolding splitsShelf upperPart lowerPart
   split-same bs s ys e =
-      let empty : isEmpty (s .items) ≡ true = both-true (isEmpty (s .items)) _ e .0 in
+      let empty : isEmpty (s .items) ≡ true = both (isEmpty (s .items)) _ e .0 in
       flat-same (livesOn (a .limits)) bs (s ∷ ys) (upperPart (asked .depth) s ∷ lowerPart (a .limits) (a .rows) (asked .depth) s ∷ ys)
       (rw (empty-none (a .limits) s (s .items) empty, empty-none (a .limits) (upperPart (asked .depth) s) (s .items) empty))
 

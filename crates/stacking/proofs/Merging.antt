@@ -1,7 +1,7 @@
 -- The two merges of shelves at the end of a release, as the rules say them: they lead to the atlas that the rules make. Assumes nothing.
 use Prim.Native.Nat.{ℕ, _<_, _≤_, _+_, _^_}
 use mathlib.Core.Path.{_≡_, refl, ap, subst}
-use mathlib.Core.Bool.{Bool, true, false, _&&_}
+use mathlib.Core.Bool.{Bool, true, false, _&&_, and-assoc, and-false}
 use mathlib.Core.List.{List, [], _∷_}
 use native.Mathlib.Omega.{arith}
 use lib.Dec.{eqb}
@@ -48,18 +48,10 @@ LowAbove m = (p : Shelf) (bs : List Shelf) → m .shelves .before ≡ p ∷ bs �
 
 -- ---- what is read of two neighbours
 
-and-three : (a b c : Bool) → a && (b && c) ≡ a && b && c
-and-three true b c = refl
-and-three false b c = refl
-
-and-false : (b c : Bool) → b && (false && c) ≡ false
-and-false true c = refl
-and-false false c = refl
-
 joins-read : (S : List ℕ) (s t : Shelf) (b c d e : ℕ) → get shelves S (s .row) ≡ shelf .says b s c → get shelves S (t .row) ≡ shelf .says d t e
     → joinsAt S (onRow (s .row)) (onRow (t .row)) ≡ joins s t
 unfolding joinsAt shelfIsEmpty joins
-joins-read S s t b c d e p q = rw (p, q) (simp flag-one (and-three (isEmpty (s .items)) (isEmpty (t .items)) (eqb (s .x) (t .x))))
+joins-read S s t b c d e p q = rw (p, q) (simp (flag-one, and-assoc))
 
 none-empty : (S : List ℕ) → shelfIsEmpty (get shelves S noRow) ≡ false
 unfolding shelfIsEmpty shelves
@@ -67,7 +59,7 @@ none-empty S = rw (get-out shelves S noRow (rows-few shelves S))
 
 none-below : (S : List ℕ) (at : ShelfIndex) → joinsAt S at noShelf ≡ false
 unfolding joinsAt
-none-below S at = rw none-empty (and-false (shelfIsEmpty (shelfAt S at)) (eqb (shelfAt S at .x) (shelfAt S noShelf .x)))
+none-below S at = rw (none-empty, and-false)
 
 none-above : (S : List ℕ) (at : ShelfIndex) → joinsAt S noShelf at ≡ false
 unfolding joinsAt
