@@ -1,4 +1,5 @@
--- The cases of each call, over variables: from what the code has seen follows the part of its promise that is met. Assumes nothing.
+-- The first check, and the cases of each call but list, over variables: from what the code has seen follows the part of its promise that is met.
+-- Assumes nothing.
 use Prim.Native.Nat.{ℕ, _-_, _*_}
 use mathlib.Core.Path.{_≡_, refl}
 use mathlib.Core.Logic.{_≢_}

@@ -1,5 +1,5 @@
--- What each public call that changes nothing promises, for every header, every two tables and whatever is asked: the answer. `S` and `I` are the
--- shelf and the item table, `r` is what the call returns. Assumes nothing.
+-- What each public call that changes nothing promises, for every header, every two tables and whatever is asked: the answer, and for list each number
+-- of the lent list. `S` and `I` are the shelf and the item table, `r` is what the call returns. Assumes nothing.
 use Prim.Native.Nat.{ℕ}
 use mathlib.Core.Path.{_≡_}
 use mathlib.Core.List.{List}

@@ -1,4 +1,5 @@
--- The cases of each call, over variables: from what the code has seen follows the part of its promise that is met. Assumes nothing.
+-- Signed numbers handed on, and the cases of create and clear, over variables: from what the code has seen follows the part of their promises that
+-- is met. Assumes nothing.
 use Prim.Native.Nat.{ℕ, _<_, _≤_}
 use mathlib.Core.Path.{_≡_, refl, sym, ap, _∙_}
 use mathlib.Core.Bool.{Bool, true, _||_, or-true}
