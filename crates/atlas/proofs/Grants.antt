@@ -26,10 +26,10 @@ use Rattle.steps.specs.declared.places.Place.{Place}
 use Rattle.steps.specs.declared.places.Held.{Held}
 use Rattle.steps.specs.declared.places.Held.the-variants.{Nothing, Good, Bad}
 use Rattle.bridge.proofs.Calls.{asked-within, grant-nothing, grant-few, grant-placed, release-none, release-done}
+use Rattle.asking.specs.declared.answers.Grant.the-variants as grant
 use Rattle.atlas.specs.Answers.{releasing}
 use Rattle.atlas.specs.Promises.{AllocatedAs, RepliedAs}
 use Rattle.atlas.specs.Placing.{RefusedWith, GrantedAt, GrantsThere, GrantsHeld, GrantsAsked}
-use Rattle.atlas.specs.declared.answers.Grant.the-variants as grant
 use Rattle.atlas.specs.declared.answers.Allocated.{Allocated}
 use Rattle.atlas.specs.declared.answers.Reply.the-variants as reply
 use Rattle.atlas.specs.declared.answers.Replied.{Replied}

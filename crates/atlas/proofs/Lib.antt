@@ -1,5 +1,3 @@
 pub mod Cases
 pub mod Grants
-pub mod Listed
-pub mod Walked
 pub mod Outcomes

@@ -8,24 +8,11 @@ use Rattle.rules.specs.Grant.{Outcome, refused, grants}
 use Rattle.rules.specs.Lies.{roomIn}
 use Rattle.rules.specs.Calls.{Made, refuses, makes, make}
 use Rattle.bridge.proofs.Calls.{one-outcome}
-use Rattle.atlas.specs.Records.{Listable, tooShort, lists}
-use Rattle.atlas.specs.Promises.{Judged, fails, passes, CreatedAs, Creates, AllocatedAs, Allocates, RepliedAs, Releases, Clears, ListedAs, Lists}
+use Rattle.asking.proofs.Outcomes.{once}
+use Rattle.atlas.specs.Promises.{CreatedAs, Creates, AllocatedAs, Allocates, RepliedAs, Releases, Clears}
 use Rattle.atlas.specs.declared.answers.Created.{Created}
 use Rattle.atlas.specs.declared.answers.Allocated.{Allocated}
 use Rattle.atlas.specs.declared.answers.Replied.{Replied}
-use Rattle.atlas.specs.declared.answers.Listing.{Listing}
-
--- the first check fails for both or passes for both
-once : {Right O E : Type 0} {Had Had′ : O → Type 0} {refusal answer : O} → ((o : O) → Had o → Had′ o → E)
-    → Judged Right Had refusal answer → Judged Right Had′ refusal answer → E
-once same (fails n had) (fails m had′) = same _ had had′
-once same (fails n had) (passes p had′) = absurd (n p)
-once same (passes p had) (fails n had′) = absurd (n p)
-once same (passes p had) (passes q had′) = same _ had had′
-
--- a call that changes nothing gives one answer
-pub one-answer : {Right A : Type 0} {r r′ refusal answer : A} → Judged Right (λ o. r ≡ o) refusal answer → Judged Right (λ o. r′ ≡ o) refusal answer → r ≡ r′
-one-answer = once (λ o e f. e ∙ sym f)
 
 module _ (S I S₁ I₁ S₂ I₂ : List ℕ) where
   -- answer and header, and both tables
@@ -73,12 +60,3 @@ module _ (S I S₁ I₁ S₂ I₂ : List ℕ) where
     pub one-clear : (r₁ r₂ : Replied) → Clears h S I r₁ S₁ I₁ → Clears h S I r₂ S₂ I₂ → Same r₁ r₂
     unfolding Clears
     one-clear r₁ r₂ = once (replied r₁ r₂)
-
-listed : (out out₁ out₂ : List ℕ) (r₁ r₂ : Listing) (o : Listable) → ListedAs out r₁ out₁ o → ListedAs out r₂ out₂ o → (r₁ ≡ r₂) × (out₁ ≡ out₂)
-unfolding ListedAs
-listed out out₁ out₂ r₁ r₂ (tooShort n) (a, u) (b, v) = (a ∙ sym b, u ∙ sym v)
-listed out out₁ out₂ r₁ r₂ (lists ls) (a, u) (b, v) = (a ∙ sym b, u ∙ sym v)
-
-pub one-list : (h : Header) (S I out out₁ out₂ : List ℕ) (r₁ r₂ : Listing) → Lists h S I out r₁ out₁ → Lists h S I out r₂ out₂ → (r₁ ≡ r₂) × (out₁ ≡ out₂)
-unfolding Lists
-one-list h S I out out₁ out₂ r₁ r₂ = once (listed out out₁ out₂ r₁ r₂)

@@ -1,26 +1,14 @@
--- What the calls answer, in document 01's numbers: 0 and the values for a success; for a refusal its number, and zeros. And the answer that each
--- outcome of the rules comes to. Assumes nothing.
+-- What create, release and clear answer, in document 01's numbers: 0 and the values for a success; for a refusal its number, and zeros. And the
+-- answer that each outcome of a release comes to. Assumes nothing.
 use Prim.Native.Nat.{ℕ}
 use mathlib.Core.List.{List, [], _∷_}
 use mathlib.Core.Option.{Option, none, some}
-use Rattle.numbers.specs.Pick.{pick}
-use Rattle.rows.specs.declared.live.Live.{Live}
 use Rattle.rules.specs.Atlas.{Atlas}
 use Rattle.rules.specs.Calls.{Made, refuses, makes}
 use Rattle.atlas.specs.declared.answers.Creation.{Creation}
 use Rattle.atlas.specs.declared.answers.Creation.the-variants as creation
-use Rattle.atlas.specs.declared.answers.Grant.{Grant}
-use Rattle.atlas.specs.declared.answers.Grant.the-variants as grant
 use Rattle.atlas.specs.declared.answers.Reply.{Reply}
 use Rattle.atlas.specs.declared.answers.Reply.the-variants as reply
-use Rattle.atlas.specs.declared.answers.Area.{Area}
-use Rattle.atlas.specs.declared.answers.Area.the-variants as area
-use Rattle.atlas.specs.declared.answers.Extent.{Extent}
-use Rattle.atlas.specs.declared.answers.Extent.the-variants as extent
-use Rattle.atlas.specs.declared.answers.Vacancy.{Vacancy}
-use Rattle.atlas.specs.declared.answers.Vacancy.the-variants as vacancy
-use Rattle.atlas.specs.declared.answers.Listing.{Listing}
-use Rattle.atlas.specs.declared.answers.Listing.the-variants as listing
 
 -- ---- answers in numbers
 
@@ -28,39 +16,11 @@ unfoldable pub creationNumbers : Creation → List ℕ
 creationNumbers (creation.Made columns) = 0 ∷ columns ∷ []
 creationNumbers (creation.Refused n) = n ∷ 0 ∷ []
 
--- an id and its rectangle
-abbrev pub liveNumbers : Live → List ℕ
-liveNumbers l = l .row ∷ l .generation ∷ l .x0 ∷ l .y0 ∷ l .x1 ∷ l .y1 ∷ []
-
-unfoldable pub grantNumbers : Grant → List ℕ
-grantNumbers (grant.Granted l) = 0 ∷ liveNumbers l
-grantNumbers (grant.Refused n) = n ∷ 0 ∷ 0 ∷ 0 ∷ 0 ∷ 0 ∷ 0 ∷ []
-
 unfoldable pub replyNumbers : Reply → List ℕ
 replyNumbers reply.Done = 0 ∷ []
 replyNumbers (reply.Refused n) = n ∷ []
 
-unfoldable pub areaNumbers : Area → List ℕ
-areaNumbers (area.Of total) = 0 ∷ total ∷ []
-areaNumbers (area.Refused n) = n ∷ 0 ∷ []
-
-unfoldable pub extentNumbers : Extent → List ℕ
-extentNumbers (extent.Sides width height) = 0 ∷ width ∷ height ∷ []
-extentNumbers (extent.Refused n) = n ∷ 0 ∷ 0 ∷ []
-
-unfoldable pub vacancyNumbers : Vacancy → List ℕ
-vacancyNumbers (vacancy.Vacant b) = 0 ∷ pick b 1 0 ∷ []
-vacancyNumbers (vacancy.Refused n) = n ∷ 0 ∷ []
-
-unfoldable pub listingNumbers : Listing → List ℕ
-listingNumbers (listing.Listed count) = 0 ∷ count ∷ []
-listingNumbers (listing.Refused n) = n ∷ 0 ∷ []
-
 -- ---- 8: the row and generation name no live item
-
-unfoldable pub lookedUp : Option Live → Grant
-lookedUp none = grant.Refused 8
-lookedUp (some l) = grant.Granted l
 
 unfoldable pub releasing : Option Atlas → Made
 releasing none = refuses 8

@@ -1,5 +1,3 @@
 pub mod Answers
-pub mod Records
-pub mod Listing
 pub mod Promises
 pub mod Placing

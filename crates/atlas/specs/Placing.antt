@@ -12,8 +12,8 @@ use Rattle.steps.specs.Grant.{grantAt, grantedAt}
 use Rattle.steps.specs.declared.places.Place.{Place}
 use Rattle.steps.specs.declared.places.Held.{Held}
 use Rattle.steps.specs.declared.places.Held.the-variants.{Nothing, Good, Bad}
+use Rattle.asking.specs.declared.answers.Grant.the-variants as grant
 use Rattle.atlas.specs.Promises.{Unchanged}
-use Rattle.atlas.specs.declared.answers.Grant.the-variants as grant
 use Rattle.atlas.specs.declared.answers.Allocated.{Allocated}
 
 module _ (h : Header) (S I : List ℕ) (asked : Asked) (r : Allocated) (S′ I′ : List ℕ) where

@@ -1,11 +1,11 @@
 // Allocate: a request is judged, a place is searched for, and it is granted if the rows suffice.
 ghost use mathlib.Core.Path.{_≡_};
+ghost use Rattle.asking.specs.declared.answers.Grant.the-variants as grant;
 ghost use Rattle.atlas.specs.Promises.{Allocates};
 ghost use Rattle.atlas.specs.Placing.{GrantsThere, GrantsAsked};
-ghost use Rattle.atlas.specs.declared.answers.Grant.the-variants as grant;
 use crate::answers::Allocated;
-use crate::answers::Grant;
-use crate::tell;
+use asking::answers::Grant;
+use asking::tell;
 use grant::grant_at;
 use numbers::request;
 use numbers::request::Asked;

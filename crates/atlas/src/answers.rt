@@ -1,6 +1,6 @@
-// What the calls answer. A refusal has its number in document 01; a call that may change the header answers beside it.
+// What the calls that may change the header answer, beside it. A refusal has its number in document 01.
+use asking::answers::Grant;
 use rows::header::Header;
-use rows::live::Live;
 
 // To create: the columns.
 pub enum Creation {
@@ -8,39 +8,9 @@ pub enum Creation {
     Refused(u16),
 }
 
-// To allocate and look-up.
-pub enum Grant {
-    Granted(Live),
-    Refused(u16),
-}
-
 // To release and clear.
 pub enum Reply {
     Done,
-    Refused(u16),
-}
-
-// To occupied and free space.
-pub enum Area {
-    Of(u32),
-    Refused(u16),
-}
-
-// To size: width and height, as they were given.
-pub enum Extent {
-    Sides(u16, u16),
-    Refused(u16),
-}
-
-// To is_empty.
-pub enum Vacancy {
-    Vacant(bool),
-    Refused(u16),
-}
-
-// To list: how many items are listed.
-pub enum Listing {
-    Listed(u16),
     Refused(u16),
 }
 

@@ -4,7 +4,7 @@ ghost use Rattle.atlas.specs.Promises.{Releases};
 ghost use Rattle.atlas.specs.declared.answers.Reply.the-variants as reply;
 use crate::answers::Replied;
 use crate::answers::Reply;
-use crate::tell;
+use asking::tell;
 use numbers::index::ItemIndex;
 use release::release_at;
 use rows::header::Header;

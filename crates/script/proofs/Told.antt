@@ -10,9 +10,9 @@ use Rattle.rules.specs.Audit.{atlasIn, Passes}
 use Rattle.rules.specs.Calls.{freeSpace, list}
 use Rattle.finding.proofs.Listing.{rowsListed}
 use Rattle.bridge.proofs.Answers.{occupied-is, list-is}
-use Rattle.atlas.specs.Promises.{Judged, fails, passes, TellsFreeSpace}
-use Rattle.atlas.specs.declared.answers.Area.{Area}
-use Rattle.atlas.specs.declared.answers.Area.the-variants as area
+use Rattle.asking.specs.Promises.{Judged, fails, passes, TellsFreeSpace}
+use Rattle.asking.specs.declared.answers.Area.{Area}
+use Rattle.asking.specs.declared.answers.Area.the-variants as area
 use Rattle.lines.specs.Answer.{textOf}
 use Rattle.lines.specs.declared.answer.Answer.the-variants as answer
 use Rattle.lines.specs.declared.command.Command.{Command}

@@ -1,8 +1,8 @@
 -- What the calls answer, as the script's answers: a refusal is "no N", whichever call gave it. Assumes nothing.
+use Rattle.asking.specs.declared.answers.Grant.{Grant}
+use Rattle.asking.specs.declared.answers.Grant.the-variants as grant
 use Rattle.atlas.specs.declared.answers.Creation.{Creation}
 use Rattle.atlas.specs.declared.answers.Creation.the-variants as creation
-use Rattle.atlas.specs.declared.answers.Grant.{Grant}
-use Rattle.atlas.specs.declared.answers.Grant.the-variants as grant
 use Rattle.atlas.specs.declared.answers.Reply.{Reply}
 use Rattle.atlas.specs.declared.answers.Reply.the-variants as reply
 use Rattle.lines.specs.declared.answer.Answer.{Answer}

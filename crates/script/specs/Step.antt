@@ -7,11 +7,12 @@ use Rattle.rows.specs.declared.header.Header.{Header}
 use Rattle.rules.specs.Atlas.{occupied}
 use Rattle.rules.specs.Audit.{atlasIn, Passes}
 use Rattle.rules.specs.Calls.{freeSpace, list}
-use Rattle.atlas.specs.Promises.{Judged, Unchanged, Creates, Allocates, Releases, Clears, LooksUp}
+use Rattle.asking.specs.Promises.{Judged, LooksUp}
+use Rattle.asking.specs.declared.answers.Grant.{Grant}
+use Rattle.atlas.specs.Promises.{Unchanged, Creates, Allocates, Releases, Clears}
 use Rattle.atlas.specs.declared.answers.Created.{Created}
 use Rattle.atlas.specs.declared.answers.Allocated.{Allocated}
 use Rattle.atlas.specs.declared.answers.Replied.{Replied}
-use Rattle.atlas.specs.declared.answers.Grant.{Grant}
 use Rattle.lines.specs.Answer.{textOf}
 use Rattle.lines.specs.Put.{Puts}
 use Rattle.lines.specs.declared.answer.Answer.{Answer}

@@ -53,7 +53,7 @@ fn put_rows(h: Header, shelves: &[u16], items: &[u16], out: &mut [u8], at: usize
 pub fn list(h: Header, shelves: &[u16], items: &[u16], out: &mut [u8], at: usize) -> Stepped
     ensures { λ r. ⌜ Steps (Doing h (now (shelves .entry)) (now (items .entry)) command.List) (now (out .entry)) at r (now (shelves .entry)) (now (items .entry)) (now (out .exit)) ⌝ }
 {
-    if !atlas::tell::passes(shelves, items, h) {
+    if !asking::tell::passes(shelves, items, h) {
         return say(h, out, at, Answer::No(3));
     }
     let lines = put_rows(h, shelves, items, out, at);

@@ -6,7 +6,7 @@ use crate::answers::of_grant;
 use crate::answers::say;
 use crate::ids::Id;
 use crate::ids::id_of;
-use atlas::answers::Area;
+use asking::answers::Area;
 use lines::answer::Answer;
 use rows::header::Header;
 
@@ -21,7 +21,7 @@ pub fn bad(h: Header, shelves: &[u16], items: &[u16], out: &mut [u8], at: usize)
 pub fn outside(h: Header, shelves: &[u16], items: &[u16], out: &mut [u8], at: usize) -> Stepped
     ensures { λ r. ⌜ Steps (NoSuchId h (now (shelves .entry)) (now (items .entry))) (now (out .entry)) at r (now (shelves .entry)) (now (items .entry)) (now (out .exit)) ⌝ }
 {
-    if atlas::tell::passes(shelves, items, h) {
+    if asking::tell::passes(shelves, items, h) {
         return say(h, out, at, Answer::No(8));
     }
     say(h, out, at, Answer::No(3))
@@ -38,7 +38,7 @@ fn look_id(
 ) -> Stepped
     ensures { λ r. ⌜ Steps (Looking h (now (shelves .entry)) (now (items .entry)) row generation) (now (out .entry)) at r (now (shelves .entry)) (now (items .entry)) (now (out .exit)) ⌝ }
 {
-    let found = atlas::tell::look_up(shelves, items, h, row, generation);
+    let found = asking::tell::look_up(shelves, items, h, row, generation);
     say(h, out, at, of_grant(found))
 }
 
@@ -68,7 +68,7 @@ pub fn look(
 pub fn space(h: Header, shelves: &[u16], items: &[u16], out: &mut [u8], at: usize) -> Stepped
     ensures { λ r. ⌜ Steps (Doing h (now (shelves .entry)) (now (items .entry)) command.Space) (now (out .entry)) at r (now (shelves .entry)) (now (items .entry)) (now (out .exit)) ⌝ }
 {
-    let free = atlas::tell::free_space(shelves, items, h);
+    let free = asking::tell::free_space(shelves, items, h);
     match free {
         Area::Of(total) => {
             return say(h, out, at, Answer::Space(h.occupied, total));

@@ -4,8 +4,9 @@ use mathlib.Core.Path.{_≡_, sym, ap, _∙_}
 use mathlib.Core.List.{List}
 use Rattle.rows.specs.declared.header.Header.{Header}
 use Rattle.rules.specs.Audit.{Passes}
-use Rattle.atlas.specs.Promises.{Judged, fails, passes, LooksUp}
-use Rattle.atlas.proofs.Outcomes.{one-answer, one-create, one-allocate, one-release, one-clear}
+use Rattle.asking.specs.Promises.{Judged, fails, passes, LooksUp}
+use Rattle.asking.proofs.Outcomes.{one-answer}
+use Rattle.atlas.proofs.Outcomes.{one-create, one-allocate, one-release, one-clear}
 use Rattle.lines.specs.Answer.{textOf}
 use Rattle.lines.specs.declared.answer.Answer.{Answer}
 use Rattle.lines.specs.declared.command.Command.{Command}

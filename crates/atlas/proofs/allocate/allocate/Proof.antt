@@ -2,8 +2,9 @@
 use mathlib.Core.Path.{refl, sym, _∙_}
 use borrow.Author.Needs.{needs}
 use Rattle.numbers.specs.Request.{asked}
+use Rattle.asking.proofs.Cases.{judged-3, judged}
 use Rattle.atlas.specs.Promises.{Allocates, AllocatedAs}
-use Rattle.atlas.proofs.Cases.{as-given-2, judged-3, judged, unchanged}
+use Rattle.atlas.proofs.Cases.{as-given-2, unchanged}
 use Rattle.atlas.proofs.Grants.{allocates-asked, allocates-refused}
 use Rattle.atlas.proofs.allocate.allocate.Statement.{statement}
 use Rattle.atlas.proofs.allocate.allocate.Tie as tie

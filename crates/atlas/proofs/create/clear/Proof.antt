@@ -1,8 +1,9 @@
 -- `clear`: its own 3, then a fresh atlas of the header's limits. Assumes nothing.
 use mathlib.Core.Path.{refl}
 use borrow.Author.Needs.{needs}
+use Rattle.asking.proofs.Cases.{judged-3, judged}
 use Rattle.atlas.specs.Promises.{Clears, RepliedAs}
-use Rattle.atlas.proofs.Cases.{judged-3, judged, cleared}
+use Rattle.atlas.proofs.Cases.{cleared}
 use Rattle.atlas.proofs.create.clear.Statement.{statement}
 use Rattle.atlas.proofs.create.clear.Tie as tie
 

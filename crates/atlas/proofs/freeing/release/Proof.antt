@@ -2,8 +2,9 @@
 use mathlib.Core.Path.{refl, sym, _∙_}
 use borrow.Author.Needs.{needs}
 use borrow.Author.Tests.{not-true, not-false}
+use Rattle.asking.proofs.Cases.{judged-3, judged}
 use Rattle.atlas.specs.Promises.{Releases, RepliedAs}
-use Rattle.atlas.proofs.Cases.{judged-3, judged, unchanged}
+use Rattle.atlas.proofs.Cases.{unchanged}
 use Rattle.atlas.proofs.Grants.{releases-none, releases-done}
 use Rattle.atlas.proofs.freeing.release.Statement.{statement}
 use Rattle.atlas.proofs.freeing.release.Tie as tie

@@ -1,7 +1,7 @@
 use mathlib.Core.Path.{refl}
 use borrow.Author.Needs.{needs}
 use Rattle.numbers.specs.Decides.{denied, granted}
-use Rattle.atlas.specs.Promises.{fails, passes}
+use Rattle.asking.specs.Promises.{fails, passes}
 use Rattle.lines.specs.Put.{put-then}
 use Rattle.script.specs.Step.{Does}
 use Rattle.script.proofs.Told.{told, list-told}

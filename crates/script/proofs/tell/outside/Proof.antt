@@ -1,6 +1,6 @@
 use borrow.Author.Needs.{needs}
 use Rattle.numbers.specs.Decides.{failed}
-use Rattle.atlas.specs.Promises.{fails, passes}
+use Rattle.asking.specs.Promises.{fails, passes}
 use Rattle.script.proofs.Told.{told}
 use Rattle.script.proofs.tell.outside.Statement.{statement}
 use Rattle.script.proofs.tell.outside.Tie as tie

@@ -1,0 +1,4 @@
+pub mod Cases
+pub mod Listed
+pub mod Walked
+pub mod Outcomes

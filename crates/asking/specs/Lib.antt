@@ -1,0 +1,4 @@
+pub mod Answers
+pub mod Records
+pub mod Listing
+pub mod Promises
