@@ -10,55 +10,90 @@ use Rattle.script.proofs.step.Tie as tie
 
 returns : tie.Need-returns
 returns c =
-    let a = c .before .before .before .before .before .before .before .before .before .before .before .before .before .args in
-    as-read (a .h) (a .shelves .now) (a .items .now) (sym (c .before .before .before .before .before .before .before .before .read-line .ensures) ∙ c .before .before .before .before .before .before .enum-told .given .1) (c .before .before .bad .ensures)
+    let at-bad = c .before .before in
+    let at-enum-told = at-bad .before .before .before .before in
+    let at-read-line = at-enum-told .before .before in
+    let start = at-read-line .before .before .before .before .before in
+    let a = start .args in
+    as-read (a .h) (a .shelves .now) (a .items .now) (sym (at-read-line .read-line .ensures) ∙ at-enum-told .enum-told .given .1) (at-bad .bad .ensures)
 
 returns-2 : tie.Need-returns-2
 returns-2 c =
-    let a = c .before .before .before .before .before .before .before .before .before .before .before .before .before .before .before .before .before .before .args in
-    as-read (a .h) (a .shelves .now) (a .items .now) (sym (c .before .before .before .before .before .before .before .before .before .before .before .before .before .read-line .ensures) ∙ c .before .before .before .before .before .before .before .before .before .before .before .command .given .1) (c .before .before .before .before .before .before .create .ensures)
+    let at-create = c .before .before .before .before .before .before in
+    let at-command = at-create .before .before .before .before .before in
+    let at-read-line = at-command .before .before in
+    let start = at-read-line .before .before .before .before .before in
+    let a = start .args in
+    as-read (a .h) (a .shelves .now) (a .items .now) (sym (at-read-line .read-line .ensures) ∙ at-command .command .given .1) (at-create .create .ensures)
 
 returns-3 : tie.Need-returns-3
 returns-3 c =
-    let g = c .before .before .before .before .before .before .before .before .before .before .before .command2 .given in
-    let t = c .before .before .before .before .before .before .before .before .before .before .known-told2 .given in
+    let at-ask = c .before .before .before .before .before .before in
+    let at-known-told2 = at-ask .before .before .before .before in
+    let at-command2 = at-known-told2 .before in
+    let at-read-line = at-command2 .before .before in
+    let start = at-read-line .before .before .before .before .before in
+    let g = at-command2 .command2 .given in
+    let t = at-known-told2 .known-told2 .given in
     let x : SFits w32 (g .0 .0) = record { sfits = t .0 .1 } in
     let y : SFits w32 (g .0 .1 .0) = record { sfits = t .1 .0 .1 } in
-    let a = c .before .before .before .before .before .before .before .before .before .before .before .before .before .before .before .before .before .before .args in
-    as-read (a .h) (a .shelves .now) (a .items .now) (sym (c .before .before .before .before .before .before .before .before .before .before .before .before .before .read-line .ensures) ∙ g .1 ∙ ap₂ command.Ask (sym (toZ-ofZ x)) (sym (toZ-ofZ y))) (c .before .before .before .before .before .before .ask .ensures)
+    let a = start .args in
+    as-read (a .h) (a .shelves .now) (a .items .now) (sym (at-read-line .read-line .ensures) ∙ g .1 ∙ ap₂ command.Ask (sym (toZ-ofZ x)) (sym (toZ-ofZ y))) (at-ask .ask .ensures)
 
 returns-4 : tie.Need-returns-4
 returns-4 c =
-    let g = c .before .before .before .before .before .before .before .before .before .before .before .command3 .given in
-    let t = c .before .before .before .before .before .before .before .before .before .before .known-told3 .given in
+    let at-release = c .before .before .before .before .before .before in
+    let at-known-told3 = at-release .before .before .before .before in
+    let at-command3 = at-known-told3 .before in
+    let at-read-line = at-command3 .before .before in
+    let start = at-read-line .before .before .before .before .before in
+    let g = at-command3 .command3 .given in
+    let t = at-known-told3 .known-told3 .given in
     let x : SFits w32 (g .0 .0) = record { sfits = t .0 .1 } in
     let y : SFits w32 (g .0 .1 .0) = record { sfits = t .1 .0 .1 } in
-    let a = c .before .before .before .before .before .before .before .before .before .before .before .before .before .before .before .before .before .before .args in
-    as-read (a .h) (a .shelves .now) (a .items .now) (sym (c .before .before .before .before .before .before .before .before .before .before .before .before .before .read-line .ensures) ∙ g .1 ∙ ap₂ command.Release (sym (toZ-ofZ x)) (sym (toZ-ofZ y))) (c .before .before .before .before .before .before .release .ensures)
+    let a = start .args in
+    as-read (a .h) (a .shelves .now) (a .items .now) (sym (at-read-line .read-line .ensures) ∙ g .1 ∙ ap₂ command.Release (sym (toZ-ofZ x)) (sym (toZ-ofZ y))) (at-release .release .ensures)
 
 returns-5 : tie.Need-returns-5
 returns-5 c =
-    let g = c .before .before .before .before .before .before .before .command4 .given in
-    let t = c .before .before .before .before .before .before .known-told4 .given in
+    let at-look = c .before .before in
+    let at-known-told4 = at-look .before .before .before .before in
+    let at-command4 = at-known-told4 .before in
+    let at-read-line = at-command4 .before .before in
+    let start = at-read-line .before .before .before .before .before in
+    let g = at-command4 .command4 .given in
+    let t = at-known-told4 .known-told4 .given in
     let x : SFits w32 (g .0 .0) = record { sfits = t .0 .1 } in
     let y : SFits w32 (g .0 .1 .0) = record { sfits = t .1 .0 .1 } in
-    let a = c .before .before .before .before .before .before .before .before .before .before .before .before .before .before .args in
-    as-read (a .h) (a .shelves .now) (a .items .now) (sym (c .before .before .before .before .before .before .before .before .before .read-line .ensures) ∙ g .1 ∙ ap₂ command.Look (sym (toZ-ofZ x)) (sym (toZ-ofZ y))) (c .before .before .look .ensures)
+    let a = start .args in
+    as-read (a .h) (a .shelves .now) (a .items .now) (sym (at-read-line .read-line .ensures) ∙ g .1 ∙ ap₂ command.Look (sym (toZ-ofZ x)) (sym (toZ-ofZ y))) (at-look .look .ensures)
 
 returns-6 : tie.Need-returns-6
 returns-6 c =
-    let a = c .before .before .before .before .before .before .before .before .before .before .before .before .before .args in
-    as-read (a .h) (a .shelves .now) (a .items .now) (sym (c .before .before .before .before .before .before .before .before .read-line .ensures) ∙ c .before .before .before .before .before .before .enum-told2 .given .1) (c .before .before .space .ensures)
+    let at-space = c .before .before in
+    let at-enum-told2 = at-space .before .before .before .before in
+    let at-read-line = at-enum-told2 .before .before in
+    let start = at-read-line .before .before .before .before .before in
+    let a = start .args in
+    as-read (a .h) (a .shelves .now) (a .items .now) (sym (at-read-line .read-line .ensures) ∙ at-enum-told2 .enum-told2 .given .1) (at-space .space .ensures)
 
 returns-7 : tie.Need-returns-7
 returns-7 c =
-    let a = c .before .before .before .before .before .before .before .before .before .before .before .before .before .args in
-    as-read (a .h) (a .shelves .now) (a .items .now) (sym (c .before .before .before .before .before .before .before .before .read-line .ensures) ∙ c .before .before .before .before .before .before .enum-told3 .given .1) (c .before .before .list .ensures)
+    let at-list = c .before .before in
+    let at-enum-told3 = at-list .before .before .before .before in
+    let at-read-line = at-enum-told3 .before .before in
+    let start = at-read-line .before .before .before .before .before in
+    let a = start .args in
+    as-read (a .h) (a .shelves .now) (a .items .now) (sym (at-read-line .read-line .ensures) ∙ at-enum-told3 .enum-told3 .given .1) (at-list .list .ensures)
 
 returns-8 : tie.Need-returns-8
 returns-8 c =
-    let a = c .before .before .before .before .before .before .before .before .before .before .before .before .before .before .before .before .before .args in
-    as-read (a .h) (a .shelves .now) (a .items .now) (sym (c .before .before .before .before .before .before .before .before .before .before .before .before .read-line .ensures) ∙ c .before .before .before .before .before .before .before .before .before .before .enum-told4 .given .1) (c .before .before .before .before .before .before .clear .ensures)
+    let at-clear = c .before .before .before .before .before .before in
+    let at-enum-told4 = at-clear .before .before .before .before in
+    let at-read-line = at-enum-told4 .before .before in
+    let start = at-read-line .before .before .before .before .before in
+    let a = start .args in
+    as-read (a .h) (a .shelves .now) (a .items .now) (sym (at-read-line .read-line .ensures) ∙ at-enum-told4 .enum-told4 .given .1) (at-clear .clear .ensures)
 
 pub step-spec : {M : Type 1} → statement M
 step-spec =

@@ -48,9 +48,12 @@ returns-3 c =
 
 returns-4 : tie.Need-returns-4 Inv-loop μ-loop
 returns-4 c =
-    let w = c .before .before .before .before .before .before .before .before .before .args .w .now in
-    let l = c .before .before .before .before .loop in
-    let h : l .i < length w = c .before .before .before .loop-test .taken in
+    let at-loop-test = c .before .before .before in
+    let at-loop = at-loop-test .before in
+    let start = at-loop .before .before .before .before .before in
+    let w = start .args .w .now in
+    let l = at-loop .loop in
+    let h : l .i < length w = at-loop-test .loop-test .taken in
     sym (none-other w (l .inv .4 ∙ digits-stop w (l .i) h (high _ (c .if4 .taken))))
 
 cast-d : tie.Need-cast-d Inv-loop μ-loop
@@ -58,9 +61,12 @@ cast-d c = search needs
 
 returns-5 : tie.Need-returns-5 Inv-loop μ-loop
 returns-5 c =
-    let w = c .before .before .before .before .before .before .before .before .before .before .args .w .now in
-    let l = c .before .before .before .before .before .loop in
-    let h : l .i < length w = c .before .before .before .before .loop-test .taken in
+    let at-loop-test = c .before .before .before .before in
+    let at-loop = at-loop-test .before in
+    let start = at-loop .before .before .before .before .before in
+    let w = start .args .w .now in
+    let l = at-loop .loop in
+    let h : l .i < length w = at-loop-test .loop-test .taken in
     sym (none-large w (omega (arith, l .inv .5, value-step w (l .i) (l .worth) h, value-grows (drop (l .i + 1) w) (l .worth * 10 + (getD w (l .i) 0 - 48)))))
 
 mul-worth : tie.Need-mul-worth Inv-loop μ-loop
@@ -71,9 +77,12 @@ add-worth c = search needs
 
 returns-6 : tie.Need-returns-6 Inv-loop μ-loop
 returns-6 c =
-    let w = c .before .before .before .before .before .before .before .before .before .before .before .args .w .now in
-    let l = c .before .before .before .before .before .before .loop in
-    let h : l .i < length w = c .before .before .before .before .before .loop-test .taken in
+    let at-loop-test = c .before .before .before .before .before in
+    let at-loop = at-loop-test .before in
+    let start = at-loop .before .before .before .before .before in
+    let w = start .args .w .now in
+    let l = at-loop .loop in
+    let h : l .i < length w = at-loop-test .loop-test .taken in
     sym (none-large w (omega (arith, l .inv .5, value-step w (l .i) (l .worth) h, value-grows (drop (l .i + 1) w) (l .worth * 10 + (getD w (l .i) 0 - 48)))))
 
 add-i : tie.Need-add-i Inv-loop μ-loop
@@ -84,9 +93,12 @@ loop-less c = search needs
 
 loop-again : tie.Need-loop-again Inv-loop μ-loop
 loop-again c =
-    let w = c .before .before .before .before .before .before .before .before .before .before .before .args .w .now in
-    let l = c .before .before .before .before .before .before .loop in
-    let h : l .i < length w = c .before .before .before .before .before .loop-test .taken in (
+    let at-loop-test = c .before .before .before .before .before in
+    let at-loop = at-loop-test .before in
+    let start = at-loop .before .before .before .before .before in
+    let w = start .args .w .now in
+    let l = at-loop .loop in
+    let h : l .i < length w = at-loop-test .loop-test .taken in (
       omega arith,
       omega arith,
       l .inv .2,

@@ -37,19 +37,30 @@ negated-requires c κs =
 
 returns : tie.Need-returns
 returns c =
-    let w = now (c .before .before .before .before .before .before .before .args .w) in
-    let m : minusFirst w ≡ true = sym (c .before .before .before .before .before .minus-first .ensures) ∙ c .before .before .before .before .if1 .taken in
-    let e : c .before .before .read-digits .result ≡ NoDigits = c .enum-told .given .1 in
-    let d : digitsOf (afterFirst w) ≡ NoDigits = ap digitsOf (sym (c .before .before .before .after-first .ensures)) ∙ sym (c .before .before .read-digits .ensures) ∙ e in
+    let at-read-digits = c .before .before in
+    let at-after-first = at-read-digits .before in
+    let at-if1 = at-after-first .before in
+    let at-minus-first = at-if1 .before in
+    let start = at-minus-first .before .before in
+    let w = now (start .args .w) in
+    let m : minusFirst w ≡ true = sym (at-minus-first .minus-first .ensures) ∙ at-if1 .if1 .taken in
+    let e : at-read-digits .read-digits .result ≡ NoDigits = c .enum-told .given .1 in
+    let d : digitsOf (afterFirst w) ≡ NoDigits = ap digitsOf (sym (at-after-first .after-first .ensures)) ∙ sym (at-read-digits .read-digits .ensures) ∙ e in
     sym (by-minus w m ∙ signed-none negℤ (afterFirst w) d neg-beyond)
 
 returns-2 : tie.Need-returns-2
 returns-2 c =
-    let w = now (c .before .before .before .before .before .before .before .before .before .args .w) in
-    let v = c .before .before .m .given .0 .0 in
-    let m : minusFirst w ≡ true = sym (c .before .before .before .before .before .before .before .minus-first .ensures) ∙ c .before .before .before .before .before .before .if1 .taken in
-    let e : c .before .before .before .before .read-digits .result ≡ Worth v = c .before .before .m .given .1 in
-    let d : Read (afterFirst w) v = was-read (afterFirst w) v (ap digitsOf (sym (c .before .before .before .before .before .after-first .ensures)) ∙ sym (c .before .before .before .before .read-digits .ensures) ∙ e) in
+    let at-m = c .before .before in
+    let at-read-digits = at-m .before .before in
+    let at-after-first = at-read-digits .before in
+    let at-if1 = at-after-first .before in
+    let at-minus-first = at-if1 .before in
+    let start = at-minus-first .before .before in
+    let w = now (start .args .w) in
+    let v = at-m .m .given .0 .0 in
+    let m : minusFirst w ≡ true = sym (at-minus-first .minus-first .ensures) ∙ at-if1 .if1 .taken in
+    let e : at-read-digits .read-digits .result ≡ Worth v = at-m .m .given .1 in
+    let d : Read (afterFirst w) v = was-read (afterFirst w) v (ap digitsOf (sym (at-after-first .after-first .ensures)) ∙ sym (at-read-digits .read-digits .ensures) ∙ e) in
     let n : c .negated .result ≡ negℤ (pos v) = c .negated .ensures in
     ap Is (toZ-ofZ {w = w32} {z = c .negated .result} (record { sfits = c .negated .ok }) ∙ n)
     ∙ sym (by-minus w m ∙ signed-in negℤ (afterFirst w) v d (neg-within v (d .most)))
@@ -68,28 +79,42 @@ cast-t13 c = search needs
 
 returns-3 : tie.Need-returns-3
 returns-3 c =
-    let w = now (c .before .before .before .before .before .before .args .w) in
-    let m : minusFirst w ≡ false = sym (c .before .before .before .before .minus-first .ensures) ∙ c .before .before .before .if1 .left in
-    let e : c .before .before .read-digits2 .result ≡ NoDigits = c .enum-told2 .given .1 in
-    sym (by-plus w m ∙ signed-none (λ z. z) w (sym (c .before .before .read-digits2 .ensures) ∙ e) (λ v h. pos-beyond v (omega arith)))
+    let at-read-digits2 = c .before .before in
+    let at-if1 = at-read-digits2 .before in
+    let at-minus-first = at-if1 .before in
+    let start = at-minus-first .before .before in
+    let w = now (start .args .w) in
+    let m : minusFirst w ≡ false = sym (at-minus-first .minus-first .ensures) ∙ at-if1 .if1 .left in
+    let e : at-read-digits2 .read-digits2 .result ≡ NoDigits = c .enum-told2 .given .1 in
+    sym (by-plus w m ∙ signed-none (λ z. z) w (sym (at-read-digits2 .read-digits2 .ensures) ∙ e) (λ v h. pos-beyond v (omega arith)))
 
 returns-4 : tie.Need-returns-4
 returns-4 c =
-    let w = now (c .before .before .before .before .before .before .before .before .args .w) in
-    let v = c .before .before .m2 .given .0 .0 in
-    let m : minusFirst w ≡ false = sym (c .before .before .before .before .before .before .minus-first .ensures) ∙ c .before .before .before .before .before .if1 .left in
-    let e : c .before .before .before .before .read-digits2 .result ≡ Worth v = c .before .before .m2 .given .1 in
-    let d : Read w v = was-read w v (sym (c .before .before .before .before .read-digits2 .ensures) ∙ e) in
+    let at-m2 = c .before .before in
+    let at-read-digits2 = at-m2 .before .before in
+    let at-if1 = at-read-digits2 .before in
+    let at-minus-first = at-if1 .before in
+    let start = at-minus-first .before .before in
+    let w = now (start .args .w) in
+    let v = at-m2 .m2 .given .0 .0 in
+    let m : minusFirst w ≡ false = sym (at-minus-first .minus-first .ensures) ∙ at-if1 .if1 .left in
+    let e : at-read-digits2 .read-digits2 .result ≡ Worth v = at-m2 .m2 .given .1 in
+    let d : Read w v = was-read w v (sym (at-read-digits2 .read-digits2 .ensures) ∙ e) in
     ap Is (toZ-ofZ {w = w32} {z = pos v} (record { sfits = c .if2 .taken }))
     ∙ sym (by-plus w m ∙ signed-in (λ z. z) w v d (pos-within v (c .if2 .taken)))
 
 returns-5 : tie.Need-returns-5
 returns-5 c =
-    let w = now (c .before .before .before .before .before .before .before .before .args .w) in
-    let v = c .before .before .m2 .given .0 .0 in
-    let m : minusFirst w ≡ false = sym (c .before .before .before .before .before .before .minus-first .ensures) ∙ c .before .before .before .before .before .if1 .left in
-    let e : c .before .before .before .before .read-digits2 .result ≡ Worth v = c .before .before .m2 .given .1 in
-    let d : Read w v = was-read w v (sym (c .before .before .before .before .read-digits2 .ensures) ∙ e) in
+    let at-m2 = c .before .before in
+    let at-read-digits2 = at-m2 .before .before in
+    let at-if1 = at-read-digits2 .before in
+    let at-minus-first = at-if1 .before in
+    let start = at-minus-first .before .before in
+    let w = now (start .args .w) in
+    let v = at-m2 .m2 .given .0 .0 in
+    let m : minusFirst w ≡ false = sym (at-minus-first .minus-first .ensures) ∙ at-if1 .if1 .left in
+    let e : at-read-digits2 .read-digits2 .result ≡ Worth v = at-m2 .m2 .given .1 in
+    let d : Read w v = was-read w v (sym (at-read-digits2 .read-digits2 .ensures) ∙ e) in
     sym (by-plus w m ∙ signed-over (λ z. z) w v d (pos-beyond v (c .if2 .left)))
 
 pub read-number-spec : {M : Type 1} → statement M

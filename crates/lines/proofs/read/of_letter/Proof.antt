@@ -9,18 +9,24 @@ use Rattle.lines.proofs.read.of_letter.Tie as tie
 returns : tie.Need-returns
 unfolding createArgs
 returns c =
+    let at-t14 = c .before .before in
+    let at-t12 = at-t14 .before in
+    let at-t10 = at-t12 .before in
+    let at-t8 = at-t10 .before in
+    let at-t6 = at-t8 .before in
+    let at-if1 = at-t6 .before in
     let s = c .before .before .before .before .before .before .before .before in
     let v = s .args .numbers .now in
     c .of-six .ensures
     ∙ simp (
-      back (at v 0) (c .before .before .before .before .before .before .t6 .given),
-      back (at v 1) (c .before .before .before .before .before .t8 .given),
-      back (at v 2) (c .before .before .before .before .t10 .given),
-      back (at v 3) (c .before .before .before .t12 .given),
-      back (at v 4) (c .before .before .t14 .given),
+      back (at v 0) (at-t6 .t6 .given),
+      back (at v 1) (at-t8 .t8 .given),
+      back (at v 2) (at-t10 .t10 .given),
+      back (at v 3) (at-t12 .t12 .given),
+      back (at v 4) (at-t14 .t14 .given),
       back (at v 5) (c .before .t16 .given),
     )
-    (sym (by-six (s .args .letter) v (s .args .count) (s .pre) (c .before .before .before .before .before .before .before .if1 .taken)))
+    (sym (by-six (s .args .letter) v (s .args .count) (s .pre) (at-if1 .if1 .taken)))
 
 returns-2 : tie.Need-returns-2
 returns-2 c =

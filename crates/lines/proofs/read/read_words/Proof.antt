@@ -35,9 +35,11 @@ shared-slice-read-letter c = search needs
 
 loop-holds : tie.Need-loop-holds Inv-loop μ-loop
 loop-holds c =
-    let l = c .before .before .before .before .args .line .now in
-    let q : c .before .before .word-end .result ≡ 0 + length (firstWord l) = c .before .before .word-end .ensures .0 in
-    let o : c .before .before .word-end .result ≡ 1 = c .before .if1 .left in
+    let at-word-end = c .before .before in
+    let start = at-word-end .before .before in
+    let l = start .args .line .now in
+    let q : at-word-end .word-end .result ≡ 0 + length (firstWord l) = at-word-end .word-end .ensures .0 in
+    let o : at-word-end .word-end .result ≡ 1 = c .before .if1 .left in
     (omega arith, omega arith, refl, claim-start l (omega arith))
 
 returns-2 : tie.Need-returns-2 Inv-loop μ-loop
@@ -70,12 +72,17 @@ enum-told c = search needs
 
 returns-3 : tie.Need-returns-3 Inv-loop μ-loop
 returns-3 c =
-    let l = c .before .before .before .before .before .before .before .before .before .before .before .before .args .line .now in
-    let p = c .before .before .before .before .before .before .before .loop in
-    let q : c .before .before .before .before .word-end2 .result ≡ p .at + 1 + length (firstWord (drop (p .at + 1) l)) = c .before .before .before .before .word-end2 .ensures .0 in
-    let r : c .before .before .read-number .result ≡ numberOf (take (c .before .before .before .before .word-end2 .result - (p .at + 1)) (drop (p .at + 1) l)) = c .before .before .read-number .ensures in
+    let at-read-number = c .before .before in
+    let at-word-end2 = at-read-number .before .before in
+    let at-loop-test = at-word-end2 .before .before in
+    let at-loop = at-loop-test .before in
+    let start = at-loop .before .before .before .before .before in
+    let l = start .args .line .now in
+    let p = at-loop .loop in
+    let q : at-word-end2 .word-end2 .result ≡ p .at + 1 + length (firstWord (drop (p .at + 1) l)) = at-word-end2 .word-end2 .ensures .0 in
+    let r : at-read-number .read-number .result ≡ numberOf (take (at-word-end2 .word-end2 .result - (p .at + 1)) (drop (p .at + 1) l)) = at-read-number .read-number .ensures in
     let w : numberOf (firstWord (drop (p .at + 1) l)) ≡ NoNumber = ap numberOf (sym (word-of l (p .at + 1) _ q)) ∙ sym r ∙ c .enum-told .given .1 in
-    sym (claim-bad l _ (take (p .count) (p .numbers)) (p .at) (p .inv .3) _ (c .before .before .before .before .before .before .loop-test .taken) q w)
+    sym (claim-bad l _ (take (p .count) (p .numbers)) (p .at) (p .inv .3) _ (at-loop-test .loop-test .taken) q w)
 
 enum-known-w : tie.Need-enum-known-w Inv-loop μ-loop
 enum-known-w c = search needs
@@ -94,18 +101,23 @@ loop-less c = search needs
 
 loop-again : tie.Need-loop-again Inv-loop μ-loop
 loop-again c =
-    let l = c .before .before .before .before .before .before .before .before .before .before .before .before .before .args .line .now in
-    let p = c .before .before .before .before .before .before .before .before .loop in
+    let at-read-number = c .before .before .before in
+    let at-word-end2 = at-read-number .before .before in
+    let at-loop-test = at-word-end2 .before .before in
+    let at-loop = at-loop-test .before in
+    let start = at-loop .before .before .before .before .before in
+    let l = start .args .line .now in
+    let p = at-loop .loop in
     let z = c .before .w .given .0 .0 in
-    let q : c .before .before .before .before .before .word-end2 .result ≡ p .at + 1 + length (firstWord (drop (p .at + 1) l)) = c .before .before .before .before .before .word-end2 .ensures .0 in
-    let r : c .before .before .before .read-number .result ≡ numberOf (take (c .before .before .before .before .before .word-end2 .result - (p .at + 1)) (drop (p .at + 1) l)) = c .before .before .before .read-number .ensures in
+    let q : at-word-end2 .word-end2 .result ≡ p .at + 1 + length (firstWord (drop (p .at + 1) l)) = at-word-end2 .word-end2 .ensures .0 in
+    let r : at-read-number .read-number .result ≡ numberOf (take (at-word-end2 .word-end2 .result - (p .at + 1)) (drop (p .at + 1) l)) = at-read-number .read-number .ensures in
     let w : numberOf (firstWord (drop (p .at + 1) l)) ≡ Is z = ap numberOf (sym (word-of l (p .at + 1) _ q)) ∙ sym r ∙ c .before .w .given .1 in
-    let k = claim-more l _ (take (p .count) (p .numbers)) (p .at) (p .inv .3) _ z (c .before .before .before .before .before .before .before .loop-test .taken) q w in
+    let k = claim-more l _ (take (p .count) (p .numbers)) (p .at) (p .inv .3) _ z (at-loop-test .loop-test .taken) q w in
     rw (back z (c .known-told .given .0 .1)) (
-      c .before .before .before .before .before .word-end2 .ensures .1,
+      at-word-end2 .word-end2 .ensures .1,
       omega arith,
       p .inv .2 ∙ sym (length-set (p .numbers) (p .count) z),
-      subst (λ (zs : List ℤ). Claim l (getD l 0 0) zs (c .before .before .before .before .before .word-end2 .result)) (sym (take-suc-set (p .numbers) (p .count) z (omega arith)) ∙ ap (λ (m : ℕ). take m (set (p .numbers) (p .count) z)) (sym (add-one (p .count)))) k,
+      subst (λ (zs : List ℤ). Claim l (getD l 0 0) zs (at-word-end2 .word-end2 .result)) (sym (take-suc-set (p .numbers) (p .count) z (omega arith)) ∙ ap (λ (m : ℕ). take m (set (p .numbers) (p .count) z)) (sym (add-one (p .count)))) k,
     )
 
 slice-aggregate-of-letter : tie.Need-slice-aggregate-of-letter Inv-loop μ-loop

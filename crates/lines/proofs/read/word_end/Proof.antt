@@ -24,9 +24,12 @@ shared-slice-read-if1 c = search needs
 
 returns : tie.Need-returns Inv-loop μ-loop
 returns c =
-    let l = c .before .before .before .loop in
-    let s = c .before .before .before .before .args .line .now in
-    (omega (arith, l .inv .1, word-stop s (l .e) (c .before .before .loop-test .taken) (eq-eqb (getD s (l .e) 0) 32 (c .if1 .taken))), l .inv .0)
+    let at-loop-test = c .before .before in
+    let at-loop = at-loop-test .before in
+    let start = at-loop .before in
+    let l = at-loop .loop in
+    let s = start .args .line .now in
+    (omega (arith, l .inv .1, word-stop s (l .e) (at-loop-test .loop-test .taken) (eq-eqb (getD s (l .e) 0) 32 (c .if1 .taken))), l .inv .0)
 
 add-e : tie.Need-add-e Inv-loop μ-loop
 add-e c = search needs
@@ -36,9 +39,12 @@ loop-less c = search needs
 
 loop-again : tie.Need-loop-again Inv-loop μ-loop
 loop-again c =
-    let l = c .before .before .before .loop in
-    let s = c .before .before .before .before .args .line .now in
-    (omega arith, omega (arith, l .inv .1, word-step s (l .e) (c .before .before .loop-test .taken) (ne-eqb (getD s (l .e) 0) 32 (c .if1 .left))))
+    let at-loop-test = c .before .before in
+    let at-loop = at-loop-test .before in
+    let start = at-loop .before in
+    let l = at-loop .loop in
+    let s = start .args .line .now in
+    (omega arith, omega (arith, l .inv .1, word-step s (l .e) (at-loop-test .loop-test .taken) (ne-eqb (getD s (l .e) 0) 32 (c .if1 .left))))
 
 returns-2 : tie.Need-returns-2 Inv-loop μ-loop
 returns-2 c =

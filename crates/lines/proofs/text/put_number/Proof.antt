@@ -82,13 +82,16 @@ same-length c = search needs
 
 returns : tie.Need-returns Inv-loop μ-loop
 returns c =
-    let l = c .before .before .before .before .before .before .before .loop in
+    let at-put-text = c .before .before in
+    let at-loop = at-put-text .before .before .before .before .before in
+    let start = at-loop .before .before in
+    let l = at-loop .loop in
     let d = set (l .digits) (l .i) (48 + l .rest) in
     let n : length d ≡ 10 = length-set (l .digits) (l .i) (48 + l .rest) ∙ l .inv .room in
-    let e : take (10 - l .i) (drop (l .i) d) ≡ decimal (c .before .before .before .before .before .before .before .before .before .args .n)
+    let e : take (10 - l .i) (drop (l .i) d) ≡ decimal (start .args .n)
     = take-all (10 - l .i) (drop (l .i) d) (omega (arith, length-drop (l .i) d))
     ∙ found-all _ (l .rest) (l .i) (l .digits) (l .inv) (omega arith) in
-    rw e at (c .before .before .put-text .ensures)
+    rw e at (at-put-text .put-text .ensures)
 
 pub put-number-spec : {M : Type 1} → statement M
 put-number-spec =

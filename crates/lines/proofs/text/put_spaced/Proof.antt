@@ -40,12 +40,17 @@ loop-less c = search needs
 
 loop-again : tie.Need-loop-again Inv-loop μ-loop
 loop-again c =
-    let l = c .before .before .before .before .before .before .before .before .before .before .loop in
-    let numbers = c .before .before .before .before .before .before .before .before .before .before .before .before .before .args .numbers .now in
-    let h : l .i < length numbers = c .before .before .before .before .before .before .before .before .before .loop-test .taken in (
+    let at-put-number = c .before .before in
+    let at-put-byte = at-put-number .before .before .before .before .before in
+    let at-loop-test = at-put-byte .before .before in
+    let at-loop = at-loop-test .before in
+    let start = at-loop .before .before .before in
+    let l = at-loop .loop in
+    let numbers = start .args .numbers .now in
+    let h : l .i < length numbers = at-loop-test .loop-test .taken in (
       omega arith,
       rw (spaced-more numbers (l .i) h)
-          (put-then (put-then (l .inv .1) (c .before .before .before .before .before .before .before .put-byte .ensures)) (c .before .before .put-number .ensures)),
+          (put-then (put-then (l .inv .1) (at-put-byte .put-byte .ensures)) (at-put-number .put-number .ensures)),
     )
 
 same-length : tie.Need-same-length Inv-loop μ-loop

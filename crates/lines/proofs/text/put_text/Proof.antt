@@ -32,10 +32,13 @@ loop-less c = search needs
 
 loop-again : tie.Need-loop-again Inv-loop μ-loop
 loop-again c =
-    let l = c .before .before .before .before .before .before .loop in
-    let text = c .before .before .before .before .before .before .before .before .before .args .text .now in
+    let at-put-byte = c .before .before in
+    let at-loop = at-put-byte .before .before .before .before in
+    let start = at-loop .before .before .before in
+    let l = at-loop .loop in
+    let text = start .args .text .now in
     let h : l .i < length text = omega arith in
-    (omega arith, rw (add-one (l .i), take-suc text (l .i) 0 h) (put-then (l .inv .1) (c .before .before .put-byte .ensures)))
+    (omega arith, rw (add-one (l .i), take-suc text (l .i) 0 h) (put-then (l .inv .1) (at-put-byte .put-byte .ensures)))
 
 same-length : tie.Need-same-length Inv-loop μ-loop
 same-length c = put-length (c .before .loop .inv .1)

@@ -8,16 +8,21 @@ use Rattle.script.proofs.calls.ask.Tie as tie
 
 returns : tie.Need-returns
 unfolding Does
-returns c = record {
-  text = textOf (c .before .before .before .of-grant .result);
-  puts = c .before .before .say .ensures .puts;
-  right = record {
-    returned = c .before .before .before .before .before .before .before .before .before .before .allocate .result;
-    promise = simp (toZ-ofZ (c .before .before .before .before .before .before .before .before .before .before .before .before .before .before .before .before .fits .w), toZ-ofZ (c .before .before .before .before .before .before .before .before .before .before .before .before .before .before .before .before .fits .height)) at (c .before .before .before .before .before .before .before .before .before .before .allocate .ensures);
-    leaves = c .before .before .say .ensures .header;
-    said = ap textOf (c .before .before .before .of-grant .ensures);
-  };
-}
+returns c =
+    let at-say = c .before .before in
+    let at-of-grant = at-say .before in
+    let at-allocate = at-of-grant .before .before .before .before .before .before .before in
+    let at-fits = at-allocate .before .before .before .before .before .before in
+    record {
+      text = textOf (at-of-grant .of-grant .result);
+      puts = at-say .say .ensures .puts;
+      right = record {
+        returned = at-allocate .allocate .result;
+        promise = simp (toZ-ofZ (at-fits .fits .w), toZ-ofZ (at-fits .fits .height)) at (at-allocate .allocate .ensures);
+        leaves = at-say .say .ensures .header;
+        said = ap textOf (at-of-grant .of-grant .ensures);
+      };
+    }
 
 pub ask-spec : {M : Type 1} → statement M
 ask-spec =

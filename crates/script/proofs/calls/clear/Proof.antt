@@ -7,16 +7,20 @@ use Rattle.script.proofs.calls.clear.Tie as tie
 
 returns : tie.Need-returns
 unfolding Does
-returns c = record {
-  text = textOf (c .before .before .before .of-reply .result);
-  puts = c .before .before .say .ensures .puts;
-  right = record {
-    returned = c .before .before .before .before .before .before .before .before .before .before .clear .result;
-    promise = c .before .before .before .before .before .before .before .before .before .before .clear .ensures;
-    leaves = c .before .before .say .ensures .header;
-    said = ap textOf (c .before .before .before .of-reply .ensures);
-  };
-}
+returns c =
+    let at-say = c .before .before in
+    let at-of-reply = at-say .before in
+    let at-clear = at-of-reply .before .before .before .before .before .before .before in
+    record {
+      text = textOf (at-of-reply .of-reply .result);
+      puts = at-say .say .ensures .puts;
+      right = record {
+        returned = at-clear .clear .result;
+        promise = at-clear .clear .ensures;
+        leaves = at-say .say .ensures .header;
+        said = ap textOf (at-of-reply .of-reply .ensures);
+      };
+    }
 
 pub clear-spec : {M : Type 1} → statement M
 clear-spec =

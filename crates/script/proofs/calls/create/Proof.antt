@@ -11,8 +11,13 @@ use Rattle.script.proofs.calls.create.Tie as tie
 returns : tie.Need-returns
 unfolding Does
 returns c =
-    let a = c .before .before .before .before .before .before .before .before .before .before .before .before .before .before .before .before .before .before .before .before .before .before .args .args in
-    let g = c .before .before .before .before .before .before .before .before .before .before .before .before .before .before .before .before .struct-told .given in
+    let at-say = c .before .before in
+    let at-of-creation = at-say .before in
+    let at-create = at-of-creation .before .before .before .before .before .before .before in
+    let at-struct-told = at-create .before .before .before .before .before .before in
+    let start = at-struct-told .before .before .before .before .before .before in
+    let a = start .args .args in
+    let g = at-struct-told .struct-told .given in
     let f0 : SFits w32 (a .w) = record { sfits = g .0 .1 } in
     let f1 : SFits w32 (a .h) = record { sfits = g .1 .0 .1 } in
     let f2 : SFits w32 (a .«align_w») = record { sfits = g .1 .1 .0 .1 } in
@@ -20,13 +25,13 @@ returns c =
     let f4 : SFits w32 (a .vertical) = record { sfits = g .1 .1 .1 .1 .0 .1 } in
     let f5 : SFits w32 (a .columns) = record { sfits = g .1 .1 .1 .1 .1 .0 .1 } in
     record {
-      text = textOf (c .before .before .before .of-creation .result);
-      puts = c .before .before .say .ensures .puts;
+      text = textOf (at-of-creation .of-creation .result);
+      puts = at-say .say .ensures .puts;
       right = record {
-        returned = c .before .before .before .before .before .before .before .before .before .before .create .result;
-        promise = simp (toZ-ofZ f0, toZ-ofZ f1, toZ-ofZ f2, toZ-ofZ f3, toZ-ofZ f4, toZ-ofZ f5) at (c .before .before .before .before .before .before .before .before .before .before .create .ensures);
-        leaves = c .before .before .say .ensures .header;
-        said = ap textOf (c .before .before .before .of-creation .ensures);
+        returned = at-create .create .result;
+        promise = simp (toZ-ofZ f0, toZ-ofZ f1, toZ-ofZ f2, toZ-ofZ f3, toZ-ofZ f4, toZ-ofZ f5) at (at-create .create .ensures);
+        leaves = at-say .say .ensures .header;
+        said = ap textOf (at-of-creation .of-creation .ensures);
       };
     }
 

@@ -12,10 +12,15 @@ returns c =
 
 returns-2 : tie.Need-returns-2
 returns-2 c =
-    let s = c .before .before .before .before .before .before .before .before .before .before .before .args in
+    let at-put-answer = c .before .before in
+    let at-live-at = at-put-answer .before .before in
+    let at-if1 = at-live-at .before in
+    let at-get-item = at-if1 .before .before in
+    let start = at-get-item .before .before .before .before in
+    let s = start .args in
     listed-row (s .h) (s .shelves .now) (s .items .now) (s .row)
-    (sym (ap (λ (v : ItemRow). v .allocated) (c .before .before .before .before .before .before .before .get-item .ensures)) ∙ c .before .before .before .before .before .if1 .left)
-    _ (c .before .before .before .before .live-at .ensures) (c .before .before .put-answer .ensures)
+    (sym (ap (λ (v : ItemRow). v .allocated) (at-get-item .get-item .ensures)) ∙ at-if1 .if1 .left)
+    _ (at-live-at .live-at .ensures) (at-put-answer .put-answer .ensures)
 
 pub put-row-spec : {M : Type 1} → statement M
 put-row-spec =

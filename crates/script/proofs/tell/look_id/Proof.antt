@@ -5,16 +5,20 @@ use Rattle.script.proofs.tell.look_id.Statement.{statement}
 use Rattle.script.proofs.tell.look_id.Tie as tie
 
 returns : tie.Need-returns
-returns c = record {
-  text = textOf (c .before .before .before .of-grant .result);
-  puts = c .before .before .say .ensures .puts;
-  right = record {
-    returned = c .before .before .before .before .before .look-up .result;
-    promise = (c .before .before .before .before .before .look-up .ensures, record { header = c .before .before .say .ensures .header; shelves = refl; items = refl });
-    leaves = c .before .before .say .ensures .header;
-    said = ap textOf (c .before .before .before .of-grant .ensures);
-  };
-}
+returns c =
+    let at-say = c .before .before in
+    let at-of-grant = at-say .before in
+    let at-look-up = at-of-grant .before .before in
+    record {
+      text = textOf (at-of-grant .of-grant .result);
+      puts = at-say .say .ensures .puts;
+      right = record {
+        returned = at-look-up .look-up .result;
+        promise = (at-look-up .look-up .ensures, record { header = at-say .say .ensures .header; shelves = refl; items = refl });
+        leaves = at-say .say .ensures .header;
+        said = ap textOf (at-of-grant .of-grant .ensures);
+      };
+    }
 
 pub look-id-spec : {M : Type 1} → statement M
 look-id-spec =
