@@ -7,7 +7,7 @@ use mathlib.Core.List.{List}
 use Prim.Native.Nat.{ℕ, _+_, _-_, _*_, _≤_, _<_}
 use native.Mathlib.Decide.{decLt}
 use native.Mathlib.Omega.{arith}
-use borrow.Author.Tests.{eq-eqb, ne-eqb}
+use borrow.Author.Tests.{eqb-true, eq-eqb, ne-eqb}
 use lib.Dec.{eqb}
 use lib.ListN.{length}
 use Rattle.numbers.specs.Index.{noRow}
@@ -17,9 +17,10 @@ use Rattle.rows.specs.declared.header.Header.{Header}
 use Rattle.rows.specs.declared.item.ItemRow.{ItemRow}
 use Rattle.rows.specs.declared.shelf.ShelfRow.{ShelfRow}
 use Rattle.rules.specs.Audit.{itemNext, Along, ItemRight, along, atLeft, sumOver}
-use Rattle.audit.specs.Counts.{apart, freeIn, liveIn, strayIn, freeOf, liveOf, strayOf, rowsOf, RightOf}
-use Rattle.chains.proofs.Turns.{Deciding, begins, onward, wrong, no-fuel, outside, Lasting, lasts, lasted}
-use Rattle.audit.proofs.Sums.{Summing, sums, summed}
+use Rattle.numbers.specs.Decides.{never, refuted}
+use Rattle.audit.specs.Counts.{apart, freeIn, liveIn, strayIn, freeOf, liveOf, strayOf, rowsOf, RightOf, ShelfTallied}
+use Rattle.chains.proofs.Turns.{Deciding, begins, onward, wrong, no-fuel, outside, ended, unended, Lasting, lasts, lasted, last-ended}
+use Rattle.audit.proofs.Sums.{Summing, sums, summed, sum-ended}
 
 pub record AtItem (h : Header) (I : List ℕ) (on : ℕ) (s : ShelfRow) (cur fuel : ℕ) (d : Along) (free live stray : ℕ) : Type 0 where
   pub walk :
@@ -137,34 +138,117 @@ going-as : {h : Header} {I : List ℕ} {on : ℕ} {s : ShelfRow} {cur p x : ℕ}
     → stray ≡ stray′ → Going h I on s cur count′ (record { prev = p; x = x; after-free = b′ }) free′ live′ stray′
 going-as count count′ b b′ free free′ live live′ stray stray′ w q r t u v = rw (← q, ← r, ← t, ← u, ← v) w
 
-module _ {h : Header} {I : List ℕ} {on : ℕ} {s : ShelfRow} {cur prev x free : ℕ} (edge lives gap linked : ℕ)
-    (w : Going h I on s cur (lives + free) (record { prev = prev; x = x; after-free = eqb edge (x + 1) }) free (x - s .x - gap) (lives * 131070 - linked))
-    (ne : cur ≢ noRow) (i : ItemRow) (e : i ≡ get items I cur) (u : cur < h .«used_items»)
-    (o : ItemRight h on (record { prev = prev; x = x; after-free = false }) i) where
-  pub past-free : i .allocated ≡ 0 → s .x + gap ≤ x → edge ≢ x + 1
-      → Going h I on s (i .next .0) (lives + (free + 1)) (record { prev = cur; x = x + i .width; after-free = eqb (x + i .width + 1) (x + i .width + 1) }) (free + 1)
-      (x + i .width - s .x - (gap + i .width)) (lives * 131070 - linked)
-  unfolding along freeIn liveIn strayIn
-  past-free a g n =
-      let is : eqb (i .allocated) 0 ≡ true = eq-eqb _ _ a in
-      let one : freeIn i ≡ 1 = rw is in
-      let none : liveIn i ≡ 0 = rw is in
-      let clean : strayIn i ≡ 0 = rw is in
-      going-as _ _ _ _ _ _ _ _ _ _ (going-past w ne i e u (with-free _ o (rw (ne-eqb edge (x + 1) n)))) (omega arith) (is ∙ sym (eq-eqb (x + i .width + 1) (x + i .width + 1) refl))
-      (omega (arith, one)) (gap-wider _ _ _ _ _ g none) (omega (arith, clean))
+-- ---- the loop
 
-  pub two-free : i .allocated ≡ 0 → edge ≡ x + 1 → RightOf h I on s → ⊥
-  two-free a q = going-wrong w ne i e (λ r. false≢true (sym (r .apart) ∙ both (eq-eqb edge (x + 1) q) (eq-eqb _ _ a)))
+-- The loop in row `cur`, with its locals: `edge` is 1 more than the place where the last free item ended, `gap` the width of the free items, `linked`
+-- the sum of the free links of the live ones.
+pub record InShelf (h : Header) (I : List ℕ) (on : ℕ) (s : ShelfRow) (cur prev x edge free lives gap linked : ℕ) : Type 0 where
+  pub going : Going h I on s cur (lives + free) (record { prev = prev; x = x; after-free = eqb edge (x + 1) }) free (x - s .x - gap) (lives * 131070 - linked)
+  pub used-most : h .«used_items» ≤ noRow
+  pub x-most : x ≤ 131070
+  pub gap-most : s .x + gap ≤ x
+  pub count-most : lives + free ≤ x
+  pub linked-most : linked ≤ lives * 131070
+  pub edge-most : edge ≤ x + 1
 
-  pub past-live : i .allocated ≢ 0 → s .x + gap ≤ x → edge ≤ x + 1 → linked ≤ lives * 131070 → i .«prev_unallocated» .0 ≤ 65535 → i .«next_unallocated» .0 ≤ 65535
-      → Going h I on s (i .next .0) (lives + 1 + free) (record { prev = cur; x = x + i .width; after-free = eqb edge (x + i .width + 1) }) free
-      (x + i .width - s .x - gap) ((lives + 1) * 131070 - (linked + (i .«prev_unallocated» .0 + i .«next_unallocated» .0)))
-  unfolding along freeIn liveIn strayIn
-  past-live a g k l p q =
-      let is : eqb (i .allocated) 0 ≡ false = ne-eqb _ _ a in
-      let none : freeIn i ≡ 0 = rw is in
-      let wide : liveIn i ≡ i .width = rw is in
-      let far : strayIn i ≡ apart (i .«prev_unallocated» .0) noRow + apart (i .«next_unallocated» .0) noRow = rw is in
-      let short : strayIn i ≡ (65535 - i .«prev_unallocated» .0) + (65535 - i .«next_unallocated» .0) = far ∙ rw (link-far _ p, link-far _ q) in
-      going-as _ _ _ _ _ _ _ _ _ _ (going-past w ne i e u (with-free _ o (rw is (and-false (eqb edge (x + 1)))))) (omega arith)
-      (is ∙ sym (ne-eqb edge (x + i .width + 1) (λ z. omega (arith, o .some-width)))) (omega (arith, none)) (gap-same _ _ _ _ _ g wide) (links-short lives linked _ _ _ l p q short)
+pub shelf-begins : (h : Header) (I : List ℕ) (on : ℕ) (s : ShelfRow) → h .«used_items» ≤ noRow → s .x ≤ 65535
+    → InShelf h I on s (s .«first_item» .0) noRow (s .x) 0 0 0 0 0
+shelf-begins h I on s b m = record {
+  going = going-begins h I on s b;
+  used-most = b;
+  x-most = omega arith;
+  gap-most = omega arith;
+  count-most = omega arith;
+  linked-most = omega arith;
+  edge-most = omega arith;
+}
+
+pub shelf-wrong : {h : Header} {I : List ℕ} {on : ℕ} {s : ShelfRow} → (RightOf h I on s → ⊥)
+    → ShelfTallied h I on s (record { right = false; count = 0; free = 0; live = 0; stray = 0 })
+shelf-wrong n = record {
+  exact = refuted n;
+  counts = never;
+  count-most = omega arith;
+  free-most = omega arith;
+  live-most = omega arith;
+  stray-most = omega arith;
+}
+
+module _ {h : Header} {I : List ℕ} {on : ℕ} {s : ShelfRow} {cur prev x edge free lives gap linked : ℕ}
+    (w : InShelf h I on s cur prev x edge free lives gap linked) where
+  pub shelf-outside : cur ≢ noRow → h .«used_items» ≤ cur → RightOf h I on s → ⊥
+  shelf-outside ne o = going-outside (w .going) ne o
+
+  pub shelf-beyond : h .«used_items» < lives + free → RightOf h I on s → ⊥
+  shelf-beyond b = w .going .beyond b
+
+  pub shelf-ended : cur ≡ noRow → lives + free ≤ h .«used_items»
+      → ShelfTallied h I on s (record {
+        right = eqb x (s .x + h .«shelf_width»);
+        count = lives + free;
+        free = free;
+        live = x - s .x - gap;
+        stray = lives * 131070 - linked;
+      })
+  shelf-ended stop few =
+      let at = w .going .within few in
+      let n = last-ended (at .count) stop in
+      record {
+        exact = record { sound = λ e. unended (at .walk) (w .used-most) stop (eqb-true _ _ e); complete = λ a. eq-eqb _ _ (ended (at .walk) (w .used-most) stop a) };
+        counts = λ e. record { count = omega (arith, n, few); free = sum-ended (at .frees) stop; live = sum-ended (at .lives) stop; stray = sum-ended (at .strays) stop };
+        count-most = omega (arith, few, w .used-most);
+        free-most = omega (arith, few, w .used-most);
+        live-most = omega (arith, w .x-most);
+        stray-most = omega (arith, few, w .used-most);
+      }
+
+  module _ (u : cur < h .«used_items») (i : ItemRow) (e : i ≡ get items I cur) where
+    there : cur ≢ noRow
+    there q = omega (arith, u, q, w .used-most)
+
+    pub item-wrong : (ItemRight h on (record { prev = prev; x = x; after-free = false }) i → ⊥) → RightOf h I on s → ⊥
+    item-wrong n = going-wrong (w .going) there i e (λ o. n (unfree o))
+
+    module _ (o : ItemRight h on (record { prev = prev; x = x; after-free = false }) i) where
+      pub two-free : i .allocated ≡ 0 → edge ≡ x + 1 → RightOf h I on s → ⊥
+      two-free a q = going-wrong (w .going) there i e (λ r. false≢true (sym (r .apart) ∙ both (eq-eqb edge (x + 1) q) (eq-eqb _ _ a)))
+
+      pub past-free : i .allocated ≡ 0 → edge ≢ x + 1 → x + i .width ≤ 131070
+          → InShelf h I on s (i .next .0) cur (x + i .width) (x + i .width + 1) (free + 1) lives (gap + i .width) linked
+      unfolding along freeIn liveIn strayIn
+      past-free a n m =
+          let is : eqb (i .allocated) 0 ≡ true = eq-eqb _ _ a in
+          let one : freeIn i ≡ 1 = rw is in
+          let none : liveIn i ≡ 0 = rw is in
+          let clean : strayIn i ≡ 0 = rw is in
+          record {
+            going = going-as _ _ _ _ _ _ _ _ _ _ (going-past (w .going) there i e u (with-free _ o (rw (ne-eqb edge (x + 1) n)))) (omega arith)
+                (is ∙ sym (eq-eqb (x + i .width + 1) (x + i .width + 1) refl)) (omega (arith, one)) (gap-wider _ _ _ _ _ (w .gap-most) none) (omega (arith, clean));
+            used-most = w .used-most;
+            x-most = m;
+            gap-most = omega (arith, w .gap-most);
+            count-most = omega (arith, w .count-most, o .some-width);
+            linked-most = w .linked-most;
+            edge-most = omega arith;
+          }
+
+      pub past-live : i .allocated ≢ 0 → x + i .width ≤ 131070 → i .«prev_unallocated» .0 ≤ 65535 → i .«next_unallocated» .0 ≤ 65535
+          → InShelf h I on s (i .next .0) cur (x + i .width) edge free (lives + 1) gap (linked + (i .«prev_unallocated» .0 + i .«next_unallocated» .0))
+      unfolding along freeIn liveIn strayIn
+      past-live a m p q =
+          let is : eqb (i .allocated) 0 ≡ false = ne-eqb _ _ a in
+          let none : freeIn i ≡ 0 = rw is in
+          let wide : liveIn i ≡ i .width = rw is in
+          let far : strayIn i ≡ apart (i .«prev_unallocated» .0) noRow + apart (i .«next_unallocated» .0) noRow = rw is in
+          let short : strayIn i ≡ (65535 - i .«prev_unallocated» .0) + (65535 - i .«next_unallocated» .0) = far ∙ rw (link-far _ p, link-far _ q) in
+          record {
+            going = going-as _ _ _ _ _ _ _ _ _ _ (going-past (w .going) there i e u (with-free _ o (rw is (and-false (eqb edge (x + 1)))))) (omega arith)
+                (is ∙ sym (ne-eqb edge (x + i .width + 1) (λ z. omega (arith, o .some-width, w .edge-most)))) (omega (arith, none))
+                (gap-same _ _ _ _ _ (w .gap-most) wide) (links-short lives linked _ _ _ (w .linked-most) p q short);
+            used-most = w .used-most;
+            x-most = m;
+            gap-most = omega (arith, w .gap-most);
+            count-most = omega (arith, w .count-most, o .some-width);
+            linked-most = omega (arith, w .linked-most);
+            edge-most = omega (arith, w .edge-most);
+          }

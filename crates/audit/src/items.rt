@@ -1,8 +1,9 @@
 // Rule 3: the items of each shelf. What rules 5 to 7 ask of the items is counted in the same pass.
 ghost use mathlib.Core.Bool.{false};
 ghost use mathlib.Core.Path.{_≡_};
-ghost use Prim.Native.Nat.{_%_};
+ghost use Prim.Native.Nat.{_%_, _≤_};
 ghost use Rattle.numbers.specs.Decides.{Decides};
+ghost use Rattle.rows.specs.Item.{itemCapacity};
 ghost use Rattle.rules.specs.Audit.{ItemRight};
 ghost use Rattle.audit.specs.Counts.{ShelfTallied, AllTallied};
 use numbers::axes;
@@ -78,9 +79,9 @@ const WRONG: Tally = Tally {
     stray: 0,
 };
 
-// The items of shelf `s`, which stands in row `on`. `edge` is 1 more than the place where the last free item ended, `gap` the width of the free items. A row of no width is refused
-// before the rest of it is read, for a table that is too short gives one.
+// The items of shelf `s`, which stands in row `on`. `edge` is 1 more than the place where the last free item ended, `gap` the width of the free items.
 pub fn items_of(h: Header, items: &[u16], on: u16, s: ShelfRow) -> Tally
+    requires { ⌜ h .«used_items» ≤ itemCapacity (now items) ⌝ }
     ensures { λ r. ⌜ ShelfTallied h (now (items .entry)) on s r ⌝ }
 {
     let mut prev: u16 = 65535;
@@ -92,10 +93,7 @@ pub fn items_of(h: Header, items: &[u16], on: u16, s: ShelfRow) -> Tally
     let mut linked: u64 = 0;
     let mut cur: u16 = s.first_item.0;
     while cur < h.used_items {
-        let i = item::get_item(items, ItemIndex(cur));
-        if i.width == 0 {
-            return WRONG;
-        }
+        let i = item::item_there(items, ItemIndex(cur));
         if !item_right(h, on, prev, x, i) {
             return WRONG;
         }
@@ -133,6 +131,7 @@ pub fn items_of(h: Header, items: &[u16], on: u16, s: ShelfRow) -> Tally
 
 // Rule 3.
 pub fn all_items(h: Header, shelves: &[u16], items: &[u16]) -> Totals
+    requires { ⌜ h .«used_items» ≤ itemCapacity (now items) ⌝ }
     ensures { λ r. ⌜ AllTallied h (now (shelves .entry)) (now (items .entry)) r ⌝ }
 {
     let mut t = Totals {
