@@ -1,12 +1,12 @@
 -- Loops that count the rows of a chain and ask something of each: a free list, the freed shelf rows, the freed item rows. Assumes nothing.
 use mathlib.Core.Path.{_≡_, refl}
 use mathlib.Core.Logic.{_≢_}
-use mathlib.Core.Bool.{true}
+use mathlib.Core.Bool.{true, false}
 use mathlib.Core.List.{List}
 use Prim.Native.Nat.{ℕ, _-_, _≤_, _<_}
 use native.Mathlib.Omega.{arith}
 use lib.ListN.{length}
-use Rattle.numbers.specs.Decides.{Decides}
+use Rattle.numbers.specs.Decides.{Decides, never, refuted}
 use Rattle.numbers.specs.Index.{noRow}
 use Rattle.rows.specs.Pool.{FreedShelf, FreedItem}
 use Rattle.rows.specs.Row.{get}
@@ -17,7 +17,7 @@ use Rattle.rows.specs.declared.item.ItemRow.{ItemRow}
 use Rattle.rows.specs.declared.shelf.ShelfRow.{ShelfRow}
 use Rattle.chains.specs.Walk.{rowsFrom, Walk}
 use Rattle.rules.specs.Audit.{freeNext, freedShelvesMet, freedItemsMet}
-use Rattle.audit.specs.Counts.{FreeItem, FreeList, FreedShelves, FreedItems}
+use Rattle.audit.specs.Counts.{FreeItem, FreeList, FreeListCounted, FreedShelves, FreedItems}
 use Rattle.chains.proofs.Turns.{Deciding, begins, onward, wrong, no-fuel, outside, unended, Lasting, lasts, lasted, last-ended}
 
 -- ---- any of them
@@ -41,6 +41,9 @@ module _ {σ R : Type 0} {row : ℕ → R} {ok : σ → R → Type 0} {link : R 
 
     pub all-counted : cur ≡ noRow → n - fuel ≡ total
     all-counted e = omega (arith, last-ended (w .count) e)
+
+    pub there : cur < n → cur ≢ noRow
+    there u e = omega (arith, w .rows-most)
 
     module _ (ne : cur ≢ noRow) where
       pub no-steps : fuel ≡ 0 → A → ⊥
@@ -67,6 +70,9 @@ AtFree h I on first cur fuel prev =
 pub free-begins : (h : Header) (I : List ℕ) (on first : ℕ) → h .«used_items» ≤ noRow → AtFree h I on first first (h .«used_items») noRow
 unfolding FreeList
 free-begins h I on first b = counting-begins b
+
+pub free-wrong : {h : Header} {I : List ℕ} {on first : ℕ} → (FreeList h I on first → ⊥) → FreeListCounted h I on first (record { right = false; count = 0 })
+free-wrong n = record { exact = refuted n; count = never; count-most = omega arith }
 
 -- ---- the freed rows
 

@@ -47,11 +47,8 @@ pub fn free_list(h: Header, items: &[u16], on: u16, first: ItemIndex) -> Counted
     let mut prev: u16 = 65535;
     let mut cur: u16 = first.0;
     let mut fuel: u16 = h.used_items;
-    while cur != 65535 {
+    while cur < h.used_items {
         if fuel == 0 {
-            return WRONG;
-        }
-        if cur >= h.used_items {
             return WRONG;
         }
         let i = item::item_there(items, ItemIndex(cur));
@@ -61,6 +58,9 @@ pub fn free_list(h: Header, items: &[u16], on: u16, first: ItemIndex) -> Counted
         prev = cur;
         cur = i.next_unallocated.0;
         fuel -= 1;
+    }
+    if cur != 65535 {
+        return WRONG;
     }
     Counted {
         right: true,

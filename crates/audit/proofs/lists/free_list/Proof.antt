@@ -1,7 +1,7 @@
 -- `free_list` decides whether a free list is right, and counts it. Assumes nothing.
 use native.Mathlib.Omega.{arith}
-use Rattle.numbers.specs.Decides.{never, refuted, denied, granted}
-use Rattle.audit.proofs.ListTurns.{AtFree, free-begins, all-right, all-counted, no-steps, no-row, wrong-row, past-row}
+use Rattle.numbers.specs.Decides.{denied, granted}
+use Rattle.audit.proofs.ListTurns.{AtFree, free-begins, free-wrong, all-right, all-counted, there, no-steps, no-row, wrong-row, past-row}
 use Rattle.audit.proofs.lists.free_list.Statement.{statement}
 use Rattle.audit.proofs.lists.free_list.Tie as tie
 
@@ -13,30 +13,30 @@ abbrev μ-loop : tie.MeasureT-loop
 
 no-steps-left : tie.Need-returns Inv-loop μ-loop
 no-steps-left c =
-    let l = c .before .before .loop in
-    record { exact = refuted (no-steps (l .inv) (c .before .loop-test .taken) (c .if1 .taken)); count = never; count-most = omega arith }
+    let l = c .before .before .before .loop in
+    free-wrong (no-steps (l .inv) (there (l .inv) (c .before .if1 .taken)) (c .if2 .taken))
 
-unused-row : tie.Need-returns-2 Inv-loop μ-loop
-unused-row c =
-    let l = c .before .before .before .before .loop in
-    record { exact = refuted (no-row (l .inv) (c .before .before .before .loop-test .taken) (omega arith)); count = never; count-most = omega arith }
-
-refused-row : tie.Need-returns-3 Inv-loop μ-loop
+refused-row : tie.Need-returns-2 Inv-loop μ-loop
 refused-row c =
-    let l = c .before .before .before .before .before .before .before .loop in
+    let l = c .before .before .before .before .before .before .loop in
+    let u = c .before .before .before .before .if1 .taken in
     let r = c .before .before .item-there in
-    record { exact = refuted (wrong-row (l .inv) (c .before .before .before .before .before .before .loop-test .taken) _ (r .ensures) (denied (c .before .free-item .ensures) (c .if3 .taken))); count = never; count-most = omega arith }
+    free-wrong (wrong-row (l .inv) (there (l .inv) u) _ (r .ensures) (denied (c .before .free-item .ensures) (c .if3 .taken)))
 
 again : tie.Need-loop-again Inv-loop μ-loop
 again c =
-    let l = c .before .before .before .before .before .before .before .loop in
+    let l = c .before .before .before .before .before .before .loop in
+    let u = c .before .before .before .before .if1 .taken in
     let r = c .before .before .item-there in
-    past-row (l .inv) (c .before .before .before .before .before .before .loop-test .taken) _ (r .ensures) (omega arith) (omega arith) (granted (c .before .free-item .ensures) (c .if3 .left))
+    past-row (l .inv) (there (l .inv) u) _ (r .ensures) (omega arith) u (granted (c .before .free-item .ensures) (c .if3 .left))
+
+unused-row : tie.Need-returns-3 Inv-loop μ-loop
+unused-row c = free-wrong (no-row (c .before .before .before .loop .inv) (c .if4 .taken) (omega arith))
 
 ended : tie.Need-returns-4 Inv-loop μ-loop
 ended c =
-    let l = c .before .before .loop in
-    let stop = c .before .loop-test .left in
+    let l = c .before .before .before .before .loop in
+    let stop = c .before .if4 .left in
     record { exact = all-right (l .inv) stop; count = λ e. all-counted (l .inv) stop; count-most = omega arith }
 
 pub free-list-spec : {M : Type 1} → statement M
@@ -47,13 +47,13 @@ free-list-spec =
     μ-loop
     (λ c. free-begins _ _ _ _ (omega arith))
     no-steps-left
-    unused-row
     (λ c κs. omega arith)
     (λ c κs. tt)
     refused-row
     (λ c. omega arith)
     (λ c. omega arith)
     again
+    unused-row
     (λ c. omega arith)
     (λ c. omega arith)
     ended)
