@@ -7,19 +7,20 @@ use mathlib.Core.List.{List}
 use Prim.Native.Nat.{ℕ, _+_, _-_, _*_, _≤_, _<_}
 use native.Mathlib.Decide.{decLt}
 use native.Mathlib.Omega.{arith}
-use borrow.Author.Tests.{eq-eqb, ne-eqb}
+use borrow.Author.Tests.{eqb-true, eq-eqb, ne-eqb}
 use lib.Dec.{eqb}
 use lib.ListN.{length}
 use Rattle.numbers.specs.Index.{noRow}
 use Rattle.rows.specs.Row.{get}
-use Rattle.rows.specs.Item.{items}
+use Rattle.rows.specs.Item.{items, withAllocated}
 use Rattle.rows.specs.declared.header.Header.{Header}
 use Rattle.rows.specs.declared.item.ItemRow.{ItemRow}
 use Rattle.rows.specs.declared.shelf.ShelfRow.{ShelfRow}
 use Rattle.rules.specs.Audit.{itemNext, Along, ItemRight, along, atLeft, sumOver}
-use Rattle.audit.specs.Counts.{apart, freeIn, liveIn, strayIn, freeOf, liveOf, strayOf, rowsOf, RightOf}
-use Rattle.chains.proofs.Turns.{Deciding, begins, onward, wrong, no-fuel, outside, Lasting, lasts, lasted}
-use Rattle.audit.proofs.Sums.{Summing, sums, summed}
+use Rattle.numbers.specs.Decides.{never, refuted}
+use Rattle.audit.specs.Counts.{apart, freeIn, liveIn, strayIn, freeOf, liveOf, strayOf, rowsOf, RightOf, ShelfTallied}
+use Rattle.chains.proofs.Turns.{Deciding, begins, onward, wrong, no-fuel, outside, ended, unended, Lasting, lasts, lasted, last-ended}
+use Rattle.audit.proofs.Sums.{Summing, sums, summed, sum-ended}
 
 pub record AtItem (h : Header) (I : List ℕ) (on : ℕ) (s : ShelfRow) (cur fuel : ℕ) (d : Along) (free live stray : ℕ) : Type 0 where
   pub walk :
@@ -88,42 +89,49 @@ module _ {h : Header} {I : List ℕ} {on : ℕ} {s : ShelfRow} {cur count : ℕ}
 
 -- ---- one item, as the loop sees it
 
--- right after a live item, an item is right wherever no free item ends before it
-pub unfree : {h : Header} {on prev x : ℕ} {after : Bool} {i : ItemRow} → ItemRight h on (record { prev = prev; x = x; after-free = after }) i
-    → ItemRight h on (record { prev = prev; x = x; after-free = false }) i
-unfree o = record {
+-- all that is asked of an item but of its flag, as if it were free and no free item ended before it
+abbrev pub Placed : Header → ℕ → ℕ → ℕ → ItemRow → Type 0
+Placed h on prev x i = ItemRight h on (record { prev = prev; x = x; after-free = false }) (withAllocated 0 i)
+
+-- the numbers of an item that the loop adds up fit 16 bits
+pub record Small (i : ItemRow) : Type 0 where
+  pub x : i .x ≤ 65535
+  pub width : i .width ≤ 65535
+  pub prev-free : i .«prev_unallocated» .0 ≤ 65535
+  pub next-free : i .«next_unallocated» .0 ≤ 65535
+
+placed : {h : Header} {on prev x : ℕ} {after : Bool} {i : ItemRow} → ItemRight h on (record { prev = prev; x = x; after-free = after }) i → Placed h on prev x i
+unfolding withAllocated
+placed o = record {
   back = o .back;
   named = o .named;
   at-x = o .at-x;
   some-width = o .some-width;
   aligned = o .aligned;
-  flag-right = o .flag-right;
+  flag-right = omega arith;
   apart = refl;
 }
 
-pub with-free : {h : Header} {on prev x : ℕ} (after : Bool) {i : ItemRow} → ItemRight h on (record { prev = prev; x = x; after-free = false }) i
-    → after && eqb (i .allocated) 0 ≡ false → ItemRight h on (record { prev = prev; x = x; after-free = after }) i
-with-free after o q = record {
+flagged : {h : Header} {on prev x : ℕ} (after : Bool) {i : ItemRow} → Placed h on prev x i → i .allocated ≤ 1 → after && eqb (i .allocated) 0 ≡ false
+    → ItemRight h on (record { prev = prev; x = x; after-free = after }) i
+unfolding withAllocated
+flagged after o f q = record {
   back = o .back;
   named = o .named;
   at-x = o .at-x;
   some-width = o .some-width;
   aligned = o .aligned;
-  flag-right = o .flag-right;
+  flag-right = f;
   apart = q;
 }
 
 both : {a b : Bool} → a ≡ true → b ≡ true → a && b ≡ true
 both e f = rw (e, f)
 
--- how far a link is from none, and what that makes of the sum
-link-far : (a : ℕ) → a ≤ 65535 → apart a noRow ≡ 65535 - a
+-- how far the two links are from none
+links-far : (a b : ℕ) → a ≤ 65535 → b ≤ 65535 → apart a noRow + apart b noRow + (a + b) ≡ 131070
 unfolding apart
-link-far a h = omega arith
-
-links-short : (lives linked a b far : ℕ) → linked ≤ lives * 131070 → a ≤ 65535 → b ≤ 65535 → far ≡ (65535 - a) + (65535 - b)
-    → lives * 131070 - linked + far ≡ (lives + 1) * 131070 - (linked + (a + b))
-links-short lives linked a b far h k l e = omega arith
+links-far a b h k = omega arith
 
 -- what the free items leave
 gap-wider : (x left gap w none : ℕ) → left + gap ≤ x → none ≡ 0 → x - left - gap + none ≡ x + w - left - (gap + w)
@@ -132,39 +140,131 @@ gap-wider x left gap w none h e = omega arith
 gap-same : (x left gap w wide : ℕ) → left + gap ≤ x → wide ≡ w → x - left - gap + wide ≡ x + w - left - gap
 gap-same x left gap w wide h e = omega arith
 
-going-as : {h : Header} {I : List ℕ} {on : ℕ} {s : ShelfRow} {cur p x : ℕ} (count count′ : ℕ) (b b′ : Bool) (free free′ live live′ stray stray′ : ℕ)
-    → Going h I on s cur count (record { prev = p; x = x; after-free = b }) free live stray → count ≡ count′ → b ≡ b′ → free ≡ free′ → live ≡ live′
-    → stray ≡ stray′ → Going h I on s cur count′ (record { prev = p; x = x; after-free = b′ }) free′ live′ stray′
-going-as count count′ b b′ free free′ live live′ stray stray′ w q r t u v = rw (← q, ← r, ← t, ← u, ← v) w
+going-as : {h : Header} {I : List ℕ} {on : ℕ} {s : ShelfRow} {cur count p x : ℕ} (b b′ : Bool) (free free′ live live′ stray stray′ : ℕ)
+    → Going h I on s cur count (record { prev = p; x = x; after-free = b }) free live stray → b ≡ b′ → free ≡ free′ → live ≡ live′ → stray ≡ stray′
+    → Going h I on s cur count (record { prev = p; x = x; after-free = b′ }) free′ live′ stray′
+going-as b b′ free free′ live live′ stray stray′ w r t u v = rw (← r, ← t, ← u, ← v) w
 
-module _ {h : Header} {I : List ℕ} {on : ℕ} {s : ShelfRow} {cur prev x free : ℕ} (edge lives gap linked : ℕ)
-    (w : Going h I on s cur (lives + free) (record { prev = prev; x = x; after-free = eqb edge (x + 1) }) free (x - s .x - gap) (lives * 131070 - linked))
-    (ne : cur ≢ noRow) (i : ItemRow) (e : i ≡ get items I cur) (u : cur < h .«used_items»)
-    (o : ItemRight h on (record { prev = prev; x = x; after-free = false }) i) where
-  pub past-free : i .allocated ≡ 0 → s .x + gap ≤ x → edge ≢ x + 1
-      → Going h I on s (i .next .0) (lives + (free + 1)) (record { prev = cur; x = x + i .width; after-free = eqb (x + i .width + 1) (x + i .width + 1) }) (free + 1)
-      (x + i .width - s .x - (gap + i .width)) (lives * 131070 - linked)
-  unfolding along freeIn liveIn strayIn
-  past-free a g n =
-      let is : eqb (i .allocated) 0 ≡ true = eq-eqb _ _ a in
-      let one : freeIn i ≡ 1 = rw is in
-      let none : liveIn i ≡ 0 = rw is in
-      let clean : strayIn i ≡ 0 = rw is in
-      going-as _ _ _ _ _ _ _ _ _ _ (going-past w ne i e u (with-free _ o (rw (ne-eqb edge (x + 1) n)))) (omega arith) (is ∙ sym (eq-eqb (x + i .width + 1) (x + i .width + 1) refl))
-      (omega (arith, one)) (gap-wider _ _ _ _ _ g none) (omega (arith, clean))
+-- ---- the loop
 
-  pub two-free : i .allocated ≡ 0 → edge ≡ x + 1 → RightOf h I on s → ⊥
-  two-free a q = going-wrong w ne i e (λ r. false≢true (sym (r .apart) ∙ both (eq-eqb edge (x + 1) q) (eq-eqb _ _ a)))
+-- The loop in row `cur`, with its locals: `edge` is 1 more than the place where the last free item ended, `gap` the width of the free items, `stray` how
+-- far the free links of the live ones are from none.
+pub record InShelf (h : Header) (I : List ℕ) (on : ℕ) (s : ShelfRow) (cur prev x edge free count gap stray : ℕ) : Type 0 where
+  pub going : Going h I on s cur count (record { prev = prev; x = x; after-free = eqb edge (x + 1) }) free (x - s .x - gap) stray
+  pub used-most : h .«used_items» ≤ noRow
+  pub x-most : x ≤ 131070
+  pub gap-most : s .x + gap ≤ x
+  pub count-most : count ≤ x
+  pub free-most : free ≤ count
+  pub stray-most : stray ≤ count * 131070
+  pub edge-most : edge ≤ x + 1
 
-  pub past-live : i .allocated ≢ 0 → s .x + gap ≤ x → edge ≤ x + 1 → linked ≤ lives * 131070 → i .«prev_unallocated» .0 ≤ 65535 → i .«next_unallocated» .0 ≤ 65535
-      → Going h I on s (i .next .0) (lives + 1 + free) (record { prev = cur; x = x + i .width; after-free = eqb edge (x + i .width + 1) }) free
-      (x + i .width - s .x - gap) ((lives + 1) * 131070 - (linked + (i .«prev_unallocated» .0 + i .«next_unallocated» .0)))
-  unfolding along freeIn liveIn strayIn
-  past-live a g k l p q =
-      let is : eqb (i .allocated) 0 ≡ false = ne-eqb _ _ a in
-      let none : freeIn i ≡ 0 = rw is in
-      let wide : liveIn i ≡ i .width = rw is in
-      let far : strayIn i ≡ apart (i .«prev_unallocated» .0) noRow + apart (i .«next_unallocated» .0) noRow = rw is in
-      let short : strayIn i ≡ (65535 - i .«prev_unallocated» .0) + (65535 - i .«next_unallocated» .0) = far ∙ rw (link-far _ p, link-far _ q) in
-      going-as _ _ _ _ _ _ _ _ _ _ (going-past w ne i e u (with-free _ o (rw is (and-false (eqb edge (x + 1)))))) (omega arith)
-      (is ∙ sym (ne-eqb edge (x + i .width + 1) (λ z. omega (arith, o .some-width)))) (omega (arith, none)) (gap-same _ _ _ _ _ g wide) (links-short lives linked _ _ _ l p q short)
+pub shelf-begins : (h : Header) (I : List ℕ) (on : ℕ) (s : ShelfRow) → h .«used_items» ≤ noRow → s .x ≤ 65535
+    → InShelf h I on s (s .«first_item» .0) noRow (s .x) 0 0 0 0 0
+shelf-begins h I on s b m = record {
+  going = going-begins h I on s b;
+  used-most = b;
+  x-most = omega arith;
+  gap-most = omega arith;
+  count-most = omega arith;
+  free-most = omega arith;
+  stray-most = omega arith;
+  edge-most = omega arith;
+}
+
+pub shelf-wrong : {h : Header} {I : List ℕ} {on : ℕ} {s : ShelfRow} → (RightOf h I on s → ⊥)
+    → ShelfTallied h I on s (record { right = false; count = 0; free = 0; live = 0; stray = 0 })
+shelf-wrong n = record {
+  exact = refuted n;
+  counts = never;
+  count-most = omega arith;
+  free-most = omega arith;
+  live-most = omega arith;
+  stray-most = omega arith;
+}
+
+module _ {h : Header} {I : List ℕ} {on : ℕ} {s : ShelfRow} {cur prev x edge free count gap stray : ℕ}
+    (w : InShelf h I on s cur prev x edge free count gap stray) where
+  pub shelf-outside : cur ≢ noRow → h .«used_items» ≤ cur → RightOf h I on s → ⊥
+  shelf-outside ne o = going-outside (w .going) ne o
+
+  pub shelf-beyond : h .«used_items» < count → RightOf h I on s → ⊥
+  shelf-beyond b = w .going .beyond b
+
+  pub shelf-ended : cur ≡ noRow → count ≤ h .«used_items»
+      → ShelfTallied h I on s (record { right = eqb x (s .x + h .«shelf_width»); count = count; free = free; live = x - s .x - gap; stray = stray })
+  shelf-ended stop few =
+      let at = w .going .within few in
+      let n = last-ended (at .count) stop in
+      record {
+        exact = record { sound = λ e. unended (at .walk) (w .used-most) stop (eqb-true _ _ e); complete = λ a. eq-eqb _ _ (ended (at .walk) (w .used-most) stop a) };
+        counts = λ e. record { count = omega (arith, n, few); free = sum-ended (at .frees) stop; live = sum-ended (at .lives) stop; stray = sum-ended (at .strays) stop };
+        count-most = omega (arith, few, w .used-most);
+        free-most = omega (arith, few, w .used-most, w .free-most);
+        live-most = omega (arith, w .x-most);
+        stray-most = omega (arith, few, w .used-most, w .stray-most);
+      }
+
+  module _ (u : cur < h .«used_items») (i : ItemRow) (e : i ≡ get items I cur) where
+    there : cur ≢ noRow
+    there q = omega (arith, u, q, w .used-most)
+
+    pub item-misplaced : (Placed h on prev x i → ⊥) → RightOf h I on s → ⊥
+    item-misplaced n = going-wrong (w .going) there i e (λ o. n (placed o))
+
+    pub no-flag : i .allocated ≢ 1 → i .allocated ≢ 0 → RightOf h I on s → ⊥
+    no-flag a b = going-wrong (w .going) there i e (λ o. omega (arith, a, b, o .flag-right))
+
+    pub two-free : i .allocated ≡ 0 → edge ≡ x + 1 → RightOf h I on s → ⊥
+    two-free a q = going-wrong (w .going) there i e (λ r. false≢true (sym (r .apart) ∙ both (eq-eqb edge (x + 1) q) (eq-eqb _ _ a)))
+
+    module _ (o : Placed h on prev x i) (m : Small i) where
+      some-width : 1 ≤ i .width
+      unfolding withAllocated
+      some-width = o .some-width
+
+      end-most : x + i .width ≤ 131070
+      unfolding withAllocated
+      end-most = omega (arith, o .at-x)
+
+      pub past-free : i .allocated ≡ 0 → edge ≢ x + 1
+          → InShelf h I on s (i .next .0) cur (x + i .width) (x + i .width + 1) (free + 1) (count + 1) (gap + i .width) stray
+      unfolding along freeIn liveIn strayIn
+      past-free a n =
+          let is : eqb (i .allocated) 0 ≡ true = eq-eqb _ _ a in
+          let one : freeIn i ≡ 1 = rw is in
+          let none : liveIn i ≡ 0 = rw is in
+          let clean : strayIn i ≡ 0 = rw is in
+          record {
+            going = going-as _ _ _ _ _ _ _ _ (going-past (w .going) there i e u (flagged _ o (omega arith) (rw (ne-eqb edge (x + 1) n))))
+                (is ∙ sym (eq-eqb (x + i .width + 1) (x + i .width + 1) refl)) (omega (arith, one)) (gap-wider _ _ _ _ _ (w .gap-most) none) (omega (arith, clean));
+            used-most = w .used-most;
+            x-most = end-most;
+            gap-most = omega (arith, w .gap-most);
+            count-most = omega (arith, w .count-most, some-width);
+            free-most = omega (arith, w .free-most);
+            stray-most = omega (arith, w .stray-most);
+            edge-most = omega arith;
+          }
+
+      pub past-live : (stray′ : ℕ) → i .allocated ≡ 1
+          → stray′ + (i .«prev_unallocated» .0 + i .«next_unallocated» .0) ≡ stray + 131070
+          → InShelf h I on s (i .next .0) cur (x + i .width) edge free (count + 1) gap stray′
+      unfolding along freeIn liveIn strayIn
+      past-live stray′ a r =
+          let is : eqb (i .allocated) 0 ≡ false = ne-eqb (i .allocated) 0 (λ z. omega (arith, a)) in
+          let none : freeIn i ≡ 0 = rw is in
+          let wide : liveIn i ≡ i .width = rw is in
+          let far : strayIn i ≡ apart (i .«prev_unallocated» .0) noRow + apart (i .«next_unallocated» .0) noRow = rw is in
+          record {
+            going = going-as _ _ _ _ _ _ _ _ (going-past (w .going) there i e u (flagged _ o (omega arith) (rw is (and-false (eqb edge (x + 1))))))
+                (is ∙ sym (ne-eqb edge (x + i .width + 1) (λ z. omega (arith, some-width, w .edge-most)))) (omega (arith, none))
+                (gap-same _ _ _ _ _ (w .gap-most) wide) (omega (arith, far, r, links-far (i .«prev_unallocated» .0) (i .«next_unallocated» .0) (m .prev-free) (m .next-free)));
+            used-most = w .used-most;
+            x-most = end-most;
+            gap-most = omega (arith, w .gap-most);
+            count-most = omega (arith, w .count-most, some-width);
+            free-most = omega (arith, w .free-most);
+            stray-most = omega (arith, w .stray-most, r);
+            edge-most = omega (arith, w .edge-most);
+          }

@@ -1,9 +1,12 @@
--- One turn along a free list and along each chain of freed rows. Assumes nothing.
-use mathlib.Core.Path.{_≡_}
+-- Loops that count the rows of a chain and ask something of each: a free list, the freed shelf rows, the freed item rows. Assumes nothing.
+use mathlib.Core.Path.{_≡_, refl}
 use mathlib.Core.Logic.{_≢_}
+use mathlib.Core.Bool.{true, false}
 use mathlib.Core.List.{List}
 use Prim.Native.Nat.{ℕ, _-_, _≤_, _<_}
+use native.Mathlib.Omega.{arith}
 use lib.ListN.{length}
+use Rattle.numbers.specs.Decides.{Decides, never, refuted}
 use Rattle.numbers.specs.Index.{noRow}
 use Rattle.rows.specs.Pool.{FreedShelf, FreedItem}
 use Rattle.rows.specs.Row.{get}
@@ -12,61 +15,81 @@ use Rattle.rows.specs.Shelf.{shelves}
 use Rattle.rows.specs.declared.header.Header.{Header}
 use Rattle.rows.specs.declared.item.ItemRow.{ItemRow}
 use Rattle.rows.specs.declared.shelf.ShelfRow.{ShelfRow}
-use Rattle.chains.specs.Walk.{rowsFrom}
-use Rattle.rules.specs.Audit.{shelfNext, itemNext, freeNext, freedShelvesMet, freedItemsMet}
-use Rattle.audit.specs.Counts.{FreeItem, FreeList, FreedShelves, FreedItems}
-use Rattle.chains.proofs.Turns.{Deciding, begins, onward, wrong, Lasting, lasts, lasted}
+use Rattle.chains.specs.Walk.{rowsFrom, Walk}
+use Rattle.rules.specs.Audit.{freeNext, freedShelvesMet, freedItemsMet}
+use Rattle.audit.specs.Counts.{FreeItem, FreeList, FreeListCounted, FreedShelves, FreedItems}
+use Rattle.chains.proofs.Turns.{Deciding, begins, onward, wrong, no-fuel, outside, unended, Lasting, lasts, lasted, last-ended}
+
+-- ---- any of them
+
+-- The loop in row `cur`: a row is `row r`, it is right if `ok` holds of it and of what is carried, and it names the next by `link`. `A` holds exactly
+-- when the rows still to be met are right, and of `n` steps so many are left that `total` rows are met in all.
+pub record Counting {σ R : Type 0} (row : ℕ → R) (ok : σ → R → Type 0) (link : R → ℕ) (next : σ → ℕ → σ) (n : ℕ) (A : Type 0) (total cur fuel : ℕ) (s : σ) : Type 0 where
+  pub walk : Deciding (λ r. link (row r)) (λ d r. ok d (row r)) next (λ last. Unit {0}) n A cur fuel s
+  pub count : Lasting (λ r. link (row r)) n total cur fuel
+  pub rows-most : n ≤ noRow
+  pub fuel-most : fuel ≤ n
+
+module _ {σ R : Type 0} {row : ℕ → R} {ok : σ → R → Type 0} {link : R → ℕ} {next : σ → ℕ → σ} {n : ℕ} where
+  counting-begins : {cur : ℕ} {s : σ} → n ≤ noRow
+      → Counting row ok link next n (Walk (λ r. link (row r)) (λ d r. ok d (row r)) next (λ last. Unit {0}) n cur s) (length (rowsFrom (λ r. link (row r)) n cur)) cur n s
+  counting-begins b = record { walk = begins b; count = lasts; rows-most = b; fuel-most = omega arith }
+
+  module _ {A : Type 0} {total cur fuel : ℕ} {s : σ} (w : Counting row ok link next n A total cur fuel s) where
+    pub all-right : cur ≡ noRow → Decides true A
+    all-right e = record { sound = λ q. unended (w .walk) (w .rows-most) e tt; complete = λ a. refl }
+
+    pub all-counted : cur ≡ noRow → n - fuel ≡ total
+    all-counted e = omega (arith, last-ended (w .count) e)
+
+    pub there : cur < n → cur ≢ noRow
+    there u e = omega (arith, w .rows-most)
+
+    module _ (ne : cur ≢ noRow) where
+      pub no-steps : fuel ≡ 0 → A → ⊥
+      no-steps z = no-fuel (w .walk) ne z
+
+      pub no-row : n ≤ cur → A → ⊥
+      no-row o = outside (w .walk) ne o
+
+      module _ (i : R) (e : i ≡ row cur) where
+        pub wrong-row : (ok s i → ⊥) → A → ⊥
+        wrong-row no′ a = wrong (w .walk) ne (λ o. no′ (rw e o)) a
+
+        pub past-row : 1 ≤ fuel → cur < n → ok s i → Counting row ok link next n A total (link i) (fuel - 1) (next s cur)
+        past-row f u o =
+            rw e (record { walk = onward (w .walk) ne f u (rw e at o); count = lasted (w .count) ne f; rows-most = w .rows-most; fuel-most = omega (arith, w .fuel-most) })
 
 -- ---- a free list
 
-pub record AtFree (h : Header) (I : List ℕ) (on first cur fuel prev : ℕ) : Type 0 where
-  pub walk :
-      Deciding (freeNext I) (λ prev r. FreeItem on prev (get items I r)) (λ prev r. r) (λ last. Unit {0}) (h .«used_items») (FreeList h I on first) cur fuel prev
-  pub count : Lasting (freeNext I) (h .«used_items») (length (rowsFrom (freeNext I) (h .«used_items») first)) cur fuel
+abbrev pub AtFree : Header → List ℕ → ℕ → ℕ → ℕ → ℕ → ℕ → Type 0
+AtFree h I on first cur fuel prev =
+    Counting (get items I) (FreeItem on) (λ (i : ItemRow). i .«next_unallocated» .0) (λ (prev : ℕ) r. r) (h .«used_items»)
+    (FreeList h I on first) (length (rowsFrom (freeNext I) (h .«used_items») first)) cur fuel prev
 
 pub free-begins : (h : Header) (I : List ℕ) (on first : ℕ) → h .«used_items» ≤ noRow → AtFree h I on first first (h .«used_items») noRow
 unfolding FreeList
-free-begins h I on first b = record { walk = begins b; count = lasts }
+free-begins h I on first b = counting-begins b
 
-module _ {h : Header} {I : List ℕ} {on first cur fuel prev : ℕ} (w : AtFree h I on first cur fuel prev) (ne : cur ≢ noRow) (i : ItemRow) (e : i ≡ get items I cur) where
-  pub wrong-free : (FreeItem on prev i → ⊥) → FreeList h I on first → ⊥
-  wrong-free n a = wrong (w .walk) ne (λ o. n (rw e o)) a
+pub free-wrong : {h : Header} {I : List ℕ} {on first : ℕ} → (FreeList h I on first → ⊥) → FreeListCounted h I on first (record { right = false; count = 0 })
+free-wrong n = record { exact = refuted n; count = never; count-most = omega arith }
 
-  pub past-free : 1 ≤ fuel → cur < h .«used_items» → FreeItem on prev i → AtFree h I on first (i .«next_unallocated» .0) (fuel - 1) cur
-  past-free f u o = rw e (record { walk = onward (w .walk) ne f u (rw e at o); count = lasted (w .count) ne f })
+-- ---- the freed rows
 
--- ---- the freed shelf rows
-
-pub record AtFreedShelf (h : Header) (S : List ℕ) (cur fuel : ℕ) : Type 0 where
-  pub walk :
-      Deciding (shelfNext S) (λ (u : Unit {0}) r. FreedShelf (get shelves S r)) (λ u r. u) (λ u. Unit {0}) (h .«used_shelves») (FreedShelves h S) cur fuel tt
-  pub count : Lasting (shelfNext S) (h .«used_shelves») (length (freedShelvesMet h S)) cur fuel
+abbrev pub AtFreedShelf : Header → List ℕ → ℕ → ℕ → Type 0
+AtFreedShelf h S cur fuel =
+    Counting (get shelves S) (λ (u : Unit {0}). FreedShelf) (λ (s : ShelfRow). s .next .0) (λ (u : Unit {0}) r. u) (h .«used_shelves»)
+    (FreedShelves h S) (length (freedShelvesMet h S)) cur fuel tt
 
 pub freed-shelves-begin : (h : Header) (S : List ℕ) → h .«used_shelves» ≤ noRow → AtFreedShelf h S (h .«free_shelves» .0) (h .«used_shelves»)
 unfolding FreedShelves freedShelvesMet
-freed-shelves-begin h S b = record { walk = begins b; count = lasts }
+freed-shelves-begin h S b = counting-begins b
 
-module _ {h : Header} {S : List ℕ} {cur fuel : ℕ} (w : AtFreedShelf h S cur fuel) (ne : cur ≢ noRow) (s : ShelfRow) (e : s ≡ get shelves S cur) where
-  pub wrong-freed-shelf : (FreedShelf s → ⊥) → FreedShelves h S → ⊥
-  wrong-freed-shelf n a = wrong (w .walk) ne (λ o. n (rw e o)) a
-
-  pub past-freed-shelf : 1 ≤ fuel → cur < h .«used_shelves» → FreedShelf s → AtFreedShelf h S (s .next .0) (fuel - 1)
-  past-freed-shelf f u o = rw e (record { walk = onward (w .walk) ne f u (rw e at o); count = lasted (w .count) ne f })
-
--- ---- the freed item rows
-
-pub record AtFreedItem (h : Header) (I : List ℕ) (cur fuel : ℕ) : Type 0 where
-  pub walk :
-      Deciding (itemNext I) (λ (u : Unit {0}) r. FreedItem (get items I r)) (λ u r. u) (λ u. Unit {0}) (h .«used_items») (FreedItems h I) cur fuel tt
-  pub count : Lasting (itemNext I) (h .«used_items») (length (freedItemsMet h I)) cur fuel
+abbrev pub AtFreedItem : Header → List ℕ → ℕ → ℕ → Type 0
+AtFreedItem h I cur fuel =
+    Counting (get items I) (λ (u : Unit {0}). FreedItem) (λ (i : ItemRow). i .next .0) (λ (u : Unit {0}) r. u) (h .«used_items»)
+    (FreedItems h I) (length (freedItemsMet h I)) cur fuel tt
 
 pub freed-items-begin : (h : Header) (I : List ℕ) → h .«used_items» ≤ noRow → AtFreedItem h I (h .«free_items» .0) (h .«used_items»)
 unfolding FreedItems freedItemsMet
-freed-items-begin h I b = record { walk = begins b; count = lasts }
-
-module _ {h : Header} {I : List ℕ} {cur fuel : ℕ} (w : AtFreedItem h I cur fuel) (ne : cur ≢ noRow) (i : ItemRow) (e : i ≡ get items I cur) where
-  pub wrong-freed-item : (FreedItem i → ⊥) → FreedItems h I → ⊥
-  wrong-freed-item n a = wrong (w .walk) ne (λ o. n (rw e o)) a
-
-  pub past-freed-item : 1 ≤ fuel → cur < h .«used_items» → FreedItem i → AtFreedItem h I (i .next .0) (fuel - 1)
-  past-freed-item f u o = rw e (record { walk = onward (w .walk) ne f u (rw e at o); count = lasted (w .count) ne f })
+freed-items-begin h I b = counting-begins b

@@ -1,8 +1,9 @@
 // Rule 3: the items of each shelf. What rules 5 to 7 ask of the items is counted in the same pass.
 ghost use mathlib.Core.Bool.{false};
 ghost use mathlib.Core.Path.{_≡_};
-ghost use Prim.Native.Nat.{_%_};
+ghost use Prim.Native.Nat.{_+_, _%_, _≤_};
 ghost use Rattle.numbers.specs.Decides.{Decides};
+ghost use Rattle.rows.specs.Item.{itemCapacity, withAllocated};
 ghost use Rattle.rules.specs.Audit.{ItemRight};
 ghost use Rattle.audit.specs.Counts.{ShelfTallied, AllTallied};
 use numbers::axes;
@@ -47,9 +48,9 @@ fn aligned(width: u32, step: u32) -> bool
     width % step == 0
 }
 
-// Whether an item is right where the walk has come to, if no free item ends there.
+// Whether an item is right where the walk has come to, whatever its flag says: as a free one would be, if no free item ends there.
 fn item_right(h: Header, on: u16, prev: u16, x: u32, i: ItemRow) -> bool
-    ensures { λ r. ⌜ Decides r (ItemRight h on (record { prev = prev; x = x; after-free = false }) i) ⌝ }
+    ensures { λ r. ⌜ Decides r (ItemRight h on (record { prev = prev; x = x; after-free = false }) (withAllocated 0 i)) ⌝ }
 {
     if i.prev.0 != prev {
         return false;
@@ -57,17 +58,21 @@ fn item_right(h: Header, on: u16, prev: u16, x: u32, i: ItemRow) -> bool
     if i.shelf.0 != on {
         return false;
     }
-    if i.x as u32 != x {
-        return false;
-    }
     if i.width == 0 {
         return false;
     }
-    if i.allocated > 1 {
+    if i.x as u32 != x {
         return false;
     }
     let step = axes::along(h.vertical, h.align_width as u32, h.align_height as u32);
     aligned(i.width as u32, step)
+}
+
+// Whether the free links of an item are both none. They stand side by side, and as one number they are read and compared at once.
+fn unlinked(i: ItemRow) -> bool
+    ensures { λ r. ⌜ Decides r (i .«prev_unallocated» .0 + i .«next_unallocated» .0 ≡ 131070) ⌝ }
+{
+    i.prev_unallocated.0 as u32 + i.next_unallocated.0 as u32 * 65536 == 4294967295
 }
 
 const WRONG: Tally = Tally {
@@ -78,29 +83,31 @@ const WRONG: Tally = Tally {
     stray: 0,
 };
 
-// The items of shelf `s`, which stands in row `on`. `edge` is 1 more than the place where the last free item ended, `gap` the width of the free items. A row of no width is refused
-// before the rest of it is read, for a table that is too short gives one.
+// The items of shelf `s`, which stands in row `on`. `edge` is 1 more than the place where the last free item ended, `gap` the width of the free items.
 pub fn items_of(h: Header, items: &[u16], on: u16, s: ShelfRow) -> Tally
+    requires { ⌜ h .«used_items» ≤ itemCapacity (now items) ⌝ }
     ensures { λ r. ⌜ ShelfTallied h (now (items .entry)) on s r ⌝ }
 {
     let mut prev: u16 = 65535;
     let mut x: u32 = s.x as u32;
     let mut edge: u32 = 0;
     let mut free: u32 = 0;
-    let mut lives: u32 = 0;
+    let mut count: u32 = 0;
     let mut gap: u32 = 0;
-    let mut linked: u64 = 0;
+    let mut stray: u64 = 0;
     let mut cur: u16 = s.first_item.0;
     while cur < h.used_items {
-        let i = item::get_item(items, ItemIndex(cur));
-        if i.width == 0 {
-            return WRONG;
-        }
+        let i = item::item_there(items, ItemIndex(cur));
         if !item_right(h, on, prev, x, i) {
             return WRONG;
         }
         let end = x + i.width as u32;
-        if i.allocated == 0 {
+        count += 1;
+        if i.allocated == 1 {
+            if !unlinked(i) {
+                stray += 131070 - i.prev_unallocated.0 as u64 - i.next_unallocated.0 as u64;
+            }
+        } else if i.allocated == 0 {
             if edge == x + 1 {
                 return WRONG;
             }
@@ -108,8 +115,7 @@ pub fn items_of(h: Header, items: &[u16], on: u16, s: ShelfRow) -> Tally
             gap += i.width as u32;
             edge = end + 1;
         } else {
-            lives += 1;
-            linked += i.prev_unallocated.0 as u64 + i.next_unallocated.0 as u64;
+            return WRONG;
         }
         x = end;
         prev = cur;
@@ -118,21 +124,22 @@ pub fn items_of(h: Header, items: &[u16], on: u16, s: ShelfRow) -> Tally
     if cur != 65535 {
         return WRONG;
     }
-    if (h.used_items as u32) < lives + free {
+    if (h.used_items as u32) < count {
         return WRONG;
     }
     let right = x == s.x as u32 + h.shelf_width as u32;
     Tally {
         right,
-        count: lives + free,
+        count,
         free,
         live: x - s.x as u32 - gap,
-        stray: lives as u64 * 131070 - linked,
+        stray,
     }
 }
 
 // Rule 3.
 pub fn all_items(h: Header, shelves: &[u16], items: &[u16]) -> Totals
+    requires { ⌜ h .«used_items» ≤ itemCapacity (now items) ⌝ }
     ensures { λ r. ⌜ AllTallied h (now (shelves .entry)) (now (items .entry)) r ⌝ }
 {
     let mut t = Totals {

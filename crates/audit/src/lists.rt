@@ -1,5 +1,7 @@
 // Rules 5 to 7: the free lists and the freed chains, against what was counted along the item chains.
+ghost use Prim.Native.Nat.{_≤_};
 ghost use Rattle.numbers.specs.Decides.{Decides};
+ghost use Rattle.rows.specs.Item.{itemCapacity};
 ghost use Rattle.audit.specs.Counts.{FreeItem, FreeListCounted, FreeListsCounted, FreedShelvesCounted, FreedItemsCounted, ListsAgree};
 use crate::items::Totals;
 use numbers::index::ItemIndex;
@@ -37,30 +39,28 @@ const WRONG: Counted = Counted {
     count: 0,
 };
 
-// The free list of the shelf in row `on`, from row `first` on. A row of no width is refused before the rest of it is read, as in `items_of`.
+// The free list of the shelf in row `on`, from row `first` on.
 pub fn free_list(h: Header, items: &[u16], on: u16, first: ItemIndex) -> Counted
+    requires { ⌜ h .«used_items» ≤ itemCapacity (now items) ⌝ }
     ensures { λ r. ⌜ FreeListCounted h (now (items .entry)) on (first .0) r ⌝ }
 {
     let mut prev: u16 = 65535;
     let mut cur: u16 = first.0;
     let mut fuel: u16 = h.used_items;
-    while cur != 65535 {
+    while cur < h.used_items {
         if fuel == 0 {
             return WRONG;
         }
-        if cur >= h.used_items {
-            return WRONG;
-        }
-        let i = item::get_item(items, ItemIndex(cur));
-        if i.width == 0 {
-            return WRONG;
-        }
+        let i = item::item_there(items, ItemIndex(cur));
         if !free_item(on, prev, i) {
             return WRONG;
         }
         prev = cur;
         cur = i.next_unallocated.0;
         fuel -= 1;
+    }
+    if cur != 65535 {
+        return WRONG;
     }
     Counted {
         right: true,
@@ -70,6 +70,7 @@ pub fn free_list(h: Header, items: &[u16], on: u16, first: ItemIndex) -> Counted
 
 // The free lists of all the shelves.
 pub fn free_lists(h: Header, shelves: &[u16], items: &[u16]) -> Counted
+    requires { ⌜ h .«used_items» ≤ itemCapacity (now items) ⌝ }
     ensures { λ r. ⌜ FreeListsCounted h (now (shelves .entry)) (now (items .entry)) r ⌝ }
 {
     let mut count: u32 = 0;
@@ -119,6 +120,7 @@ pub fn freed_shelves(h: Header, shelves: &[u16]) -> Counted
 
 // The freed item rows.
 pub fn freed_items(h: Header, items: &[u16]) -> Counted
+    requires { ⌜ h .«used_items» ≤ itemCapacity (now items) ⌝ }
     ensures { λ r. ⌜ FreedItemsCounted h (now (items .entry)) r ⌝ }
 {
     let mut cur: u16 = h.free_items.0;
@@ -130,7 +132,7 @@ pub fn freed_items(h: Header, items: &[u16]) -> Counted
         if cur >= h.used_items {
             return WRONG;
         }
-        let i = item::get_item(items, ItemIndex(cur));
+        let i = item::item_there(items, ItemIndex(cur));
         if !pool::is_freed_item(i) {
             return WRONG;
         }
@@ -145,6 +147,7 @@ pub fn freed_items(h: Header, items: &[u16]) -> Counted
 
 // Whether the free lists and the freed chains agree with the totals of the item chains.
 pub fn lists_agree(h: Header, shelves: &[u16], items: &[u16], t: Totals) -> bool
+    requires { ⌜ h .«used_items» ≤ itemCapacity (now items) ⌝ }
     ensures { λ r. ⌜ Decides r (ListsAgree h (now (shelves .entry)) (now (items .entry)) t) ⌝ }
 {
     if t.stray != 0 {

@@ -106,9 +106,12 @@ module _ {A : Type 0} (s : Shape A) where
   pub get-short : (l : List ℕ) (i : ℕ) → length l < i * s .width + s .width → s .value [] ≡ get l i
   get-short l i h = sym (get-out l i (unfit-rows l i h))
 
+  pub get-there : (l : List ℕ) (i : ℕ) → i < rows l → s .value (take (i * s .width + s .width - i * s .width) (drop (i * s .width) l)) ≡ get l i
+  get-there l i h = rw (add-sub-cancel-left, get-in l i h)
+
   pub get-part : (l : List ℕ) (i : ℕ) → i < 65535 → i * s .width + s .width ≤ length l
       → s .value (take (i * s .width + s .width - i * s .width) (drop (i * s .width) l)) ≡ get l i
-  get-part l i f h = rw (add-sub-cancel-left, get-in l i (fit-rows l i f h))
+  get-part l i f h = get-there l i (fit-rows l i f h)
 
   pub put-none : (l : List ℕ) (i : ℕ) (v : A) → i ≡ 65535 → l ≡ put l i v
   put-none l i v e = sym (put-out l i v (omega (arith, rows-few l)))

@@ -1,6 +1,7 @@
 // The rows of the item table, as values.
 ghost use mathlib.Core.Path.{_≡_};
 ghost use lib.ListN.{length};
+ghost use Prim.Native.Nat.{_<_};
 ghost use Rattle.rows.specs.Item.{zeroItem, numbersOf, itemOf, itemCapacity, itemAt, putItem};
 use numbers::index::ItemIndex;
 use numbers::index::ShelfIndex;
@@ -83,6 +84,16 @@ pub fn item_capacity(items: &[u16]) -> u16
     n as u16
 }
 
+// The row at an index that the table has: its length is not tested.
+pub fn item_there(items: &[u16], at: ItemIndex) -> ItemRow
+    requires { ⌜ at .0 < itemCapacity (now items) ⌝ }
+    ensures { λ r. ⌜ r ≡ itemAt (now (items .entry)) at ⌝ }
+{
+    let b = at.0 as usize * NUMBERS;
+    let e = b + NUMBERS;
+    read_item(&items[b..e])
+}
+
 // The row at an index; zeros where the table has no such row.
 pub fn get_item(items: &[u16], at: ItemIndex) -> ItemRow
     ensures { λ r. ⌜ r ≡ itemAt (now (items .entry)) at ⌝ }
@@ -90,12 +101,10 @@ pub fn get_item(items: &[u16], at: ItemIndex) -> ItemRow
     if at.0 == ItemIndex::NONE.0 {
         return no_item();
     }
-    let b = at.0 as usize * NUMBERS;
-    let e = b + NUMBERS;
-    if items.len() < e {
+    if items.len() < at.0 as usize * NUMBERS + NUMBERS {
         return no_item();
     }
-    read_item(&items[b..e])
+    item_there(items, at)
 }
 
 // The row goes to its index; nothing changes where the table has no such row.

@@ -5,52 +5,56 @@ use Rattle.audit.proofs.Exactness.{fails-1, fails-2, fails-3, fails-5, 
 use Rattle.audit.proofs.audit.Statement.{statement}
 use Rattle.audit.proofs.audit.Tie as tie
 
-header-right-requires : tie.Need-header-right-requires
-header-right-requires c κs = tt
+rule1-fails : tie.Need-returns
+rule1-fails c = fails-1 _ _ _ (denied (c .before .header-right .ensures) (c .if1 .taken))
 
-returns : tie.Need-returns
-returns c = fails-1 _ _ _ (denied (c .before .header-right .ensures) (c .if1 .taken))
+rule2-fails : tie.Need-returns-2
+rule2-fails c =
+    let rule1 = granted (c .before .before .before .header-right .ensures) (c .before .before .if1 .left) in
+    fails-2 _ _ _ rule1 (denied (c .before .shelves-right .ensures) (c .if2 .taken))
 
-shelves-right-requires : tie.Need-shelves-right-requires
-shelves-right-requires c κs = tt
+items-there : tie.Need-all-items-requires
+items-there c κs =
+    let rule1 = granted (c .before .before .before .header-right .ensures) (c .before .before .if1 .left) in
+    rule1 .items-fit
 
-returns-2 : tie.Need-returns-2
-returns-2 c =
-    fails-2 _ _ _ (granted (c .before .before .before .header-right .ensures) (c .before .before .if1 .left)) (denied (c .before .shelves-right .ensures) (c .if2 .taken))
+rule3-fails : tie.Need-returns-3
+rule3-fails c =
+    let rule1 = granted (c .before .before .before .before .before .before .header-right .ensures) (c .before .before .before .before .before .if1 .left) in
+    let rule2 = granted (c .before .before .before .before .shelves-right .ensures) (c .before .before .before .if2 .left) in
+    fails-3 _ _ _ rule1 rule2 (denied (c .before .before .all-items .ensures .exact) (c .if3 .taken))
 
-all-items-requires : tie.Need-all-items-requires
-all-items-requires c κs = tt
+lists-there : tie.Need-lists-agree-requires
+lists-there c κs =
+    let rule1 = granted (c .before .before .before .before .before .before .header-right .ensures) (c .before .before .before .before .before .if1 .left) in
+    rule1 .items-fit
 
-returns-3 : tie.Need-returns-3
-returns-3 c =
-    fails-3 _ _ _ (granted (c .before .before .before .before .before .before .header-right .ensures) (c .before .before .before .before .before .if1 .left)) (granted (c .before .before .before .before .shelves-right .ensures) (c .before .before .before .if2 .left))
-    (denied (c .before .before .all-items .ensures .exact) (c .if3 .taken))
+rules5-fail : tie.Need-returns-4
+rules5-fail c =
+    let rule1 = granted (c .before .before .before .before .before .before .before .before .header-right .ensures) (c .before .before .before .before .before .before .before .if1 .left) in
+    let rule2 = granted (c .before .before .before .before .before .before .shelves-right .ensures) (c .before .before .before .before .before .if2 .left) in
+    let t = c .before .before .before .before .all-items .ensures in
+    let right = c .before .before .if3 .left in
+    fails-5 _ _ _ rule1 rule2 (granted (t .exact) right) _ (t .counts (not-false _ right)) (denied (c .before .lists-agree .ensures) (c .if4 .taken))
 
-lists-agree-requires : tie.Need-lists-agree-requires
-lists-agree-requires c κs = tt
-
-returns-4 : tie.Need-returns-4
-returns-4 c =
-    fails-5 _ _ _ (granted (c .before .before .before .before .before .before .before .before .header-right .ensures) (c .before .before .before .before .before .before .before .if1 .left)) (granted (c .before .before .before .before .before .before .shelves-right .ensures) (c .before .before .before .before .before .if2 .left))
-    (granted (c .before .before .before .before .all-items .ensures .exact) (c .before .before .if3 .left)) _ (c .before .before .before .before .all-items .ensures .counts (not-false _ (c .before .before .if3 .left)))
-    (denied (c .before .lists-agree .ensures) (c .if4 .taken))
-
-returns-5 : tie.Need-returns-5
-returns-5 c =
-    all-hold _ _ _ (granted (c .before .before .before .before .before .before .before .before .header-right .ensures) (c .before .before .before .before .before .before .before .if1 .left)) (granted (c .before .before .before .before .before .before .shelves-right .ensures) (c .before .before .before .before .before .if2 .left))
-    (granted (c .before .before .before .before .all-items .ensures .exact) (c .before .before .if3 .left)) _ (c .before .before .before .before .all-items .ensures .counts (not-false _ (c .before .before .if3 .left)))
-    (granted (c .before .lists-agree .ensures) (c .if4 .left))
+passes : tie.Need-returns-5
+passes c =
+    let rule1 = granted (c .before .before .before .before .before .before .before .before .header-right .ensures) (c .before .before .before .before .before .before .before .if1 .left) in
+    let rule2 = granted (c .before .before .before .before .before .before .shelves-right .ensures) (c .before .before .before .before .before .if2 .left) in
+    let t = c .before .before .before .before .all-items .ensures in
+    let right = c .before .before .if3 .left in
+    all-hold _ _ _ rule1 rule2 (granted (t .exact) right) _ (t .counts (not-false _ right)) (granted (c .before .lists-agree .ensures) (c .if4 .left))
 
 pub audit-spec : {M : Type 1} → statement M
 audit-spec =
     tie.close
     (tie.spec
-    header-right-requires
-    returns
-    shelves-right-requires
-    returns-2
-    all-items-requires
-    returns-3
-    lists-agree-requires
-    returns-4
-    returns-5)
+    (λ c κs. tt)
+    rule1-fails
+    (λ c κs. tt)
+    rule2-fails
+    items-there
+    rule3-fails
+    lists-there
+    rules5-fail
+    passes)

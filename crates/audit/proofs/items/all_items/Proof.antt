@@ -11,63 +11,42 @@ Inv-loop h shelves items t₀ cur₀ fuel₀ t cur fuel = AtTotals h shelves ite
 abbrev μ-loop : tie.MeasureT-loop
 μ-loop h shelves items t₀ cur₀ fuel₀ t cur fuel = fuel
 
-loop-holds : tie.Need-loop-holds Inv-loop μ-loop
-loop-holds c = totals-begin _ _ _ (omega arith)
-
-returns : tie.Need-returns Inv-loop μ-loop
-returns c = totals-ended (c .before .before .loop .inv) (c .if1 .taken)
-
-get-shelf-requires : tie.Need-get-shelf-requires Inv-loop μ-loop
-get-shelf-requires c κs = tt
-
-items-of-requires : tie.Need-items-of-requires Inv-loop μ-loop
-items-of-requires c κs = tt
-
-returns-2 : tie.Need-returns-2 Inv-loop μ-loop
-returns-2 c =
+refused-shelf : tie.Need-returns-2 Inv-loop μ-loop
+refused-shelf c =
+    let l = c .before .before .before .before .before .before .loop in
+    let s = c .before .before .before .get-shelf in
+    let of = c .before .before .items-of in
     record {
-      exact = refuted (wrong-items (c .before .before .before .before .before .before .loop .inv) (c .before .before .before .before .if1 .left) (c .before .before .before .before .before .loop-test .taken) _ (c .before .before .before .get-shelf .ensures) _ (c .before .before .items-of .ensures) (c .if2 .taken));
+      exact = refuted (wrong-items (l .inv) (c .before .before .before .before .if1 .left) (c .before .before .before .before .before .loop-test .taken) _ (s .ensures) _ (of .ensures) (c .if2 .taken));
       counts = never;
     }
 
-add-t : tie.Need-add-t Inv-loop μ-loop
-add-t c = omega (arith, c .before .before .before .before .before .before .before .loop .inv .shelves-most, c .before .before .before .before .before .before .before .loop .inv .used-most)
+strays-fit : tie.Need-add-t-4 Inv-loop μ-loop
+strays-fit c =
+    let l = c .before .before .before .before .before .before .before .before .before .before .before .before .before .loop in
+    let of = c .before .before .before .before .before .before .before .before .before .items-of in
+    omega (arith, l .inv .stray-most, l .inv .used-most, of .ensures .stray-most)
 
-add-t-2 : tie.Need-add-t-2 Inv-loop μ-loop
-add-t-2 c = omega (arith, c .before .before .before .before .before .before .before .before .before .loop .inv .items-most, c .before .before .before .before .before .before .before .before .before .loop .inv .used-most, c .before .before .before .before .before .items-of .ensures .count-most)
+area-fits : tie.Need-mul-t Inv-loop μ-loop
+area-fits c =
+    let l = c .before .before .before .before .before .before .before .before .before .before .before .before .before .before .before .loop in
+    let s = c .before .before .before .before .before .before .before .before .before .before .before .before .get-shelf in
+    let of = c .before .before .before .before .before .before .before .before .before .before .before .items-of in
+    omega (arith, area-small (l .inv) (c .before .before .before .before .before .before .before .before .before .before .before .before .before .if1 .left) (c .before .before .before .before .before .before .before .before .before .before .before .before .before .before .loop-test .taken) _ (s .ensures) _ (of .ensures) (omega arith))
 
-add-t-3 : tie.Need-add-t-3 Inv-loop μ-loop
-add-t-3 c = omega (arith, c .before .before .before .before .before .before .before .before .before .before .before .loop .inv .free-most, c .before .before .before .before .before .before .before .before .before .before .before .loop .inv .used-most, c .before .before .before .before .before .before .before .items-of .ensures .free-most)
+areas-fit : tie.Need-add-t-5 Inv-loop μ-loop
+areas-fit c =
+    let l = c .before .before .before .before .before .before .before .before .before .before .before .before .before .before .before .before .loop in
+    let s = c .before .before .before .before .before .before .before .before .before .before .before .before .before .get-shelf in
+    let of = c .before .before .before .before .before .before .before .before .before .before .before .before .items-of in
+    omega (arith, l .inv .area-most, l .inv .used-most, area-small (l .inv) (c .before .before .before .before .before .before .before .before .before .before .before .before .before .before .if1 .left) (c .before .before .before .before .before .before .before .before .before .before .before .before .before .before .before .loop-test .taken) _ (s .ensures) _ (of .ensures) (omega arith))
 
-add-t-4 : tie.Need-add-t-4 Inv-loop μ-loop
-add-t-4 c = omega (arith, c .before .before .before .before .before .before .before .before .before .before .before .before .before .loop .inv .stray-most, c .before .before .before .before .before .before .before .before .before .before .before .before .before .loop .inv .used-most, c .before .before .before .before .before .before .before .before .before .items-of .ensures .stray-most)
-
-cast-t : tie.Need-cast-t Inv-loop μ-loop
-cast-t c = omega arith
-
-cast-t-2 : tie.Need-cast-t-2 Inv-loop μ-loop
-cast-t-2 c = omega arith
-
-mul-t : tie.Need-mul-t Inv-loop μ-loop
-mul-t c = omega (arith, area-small (c .before .before .before .before .before .before .before .before .before .before .before .before .before .before .before .loop .inv) (c .before .before .before .before .before .before .before .before .before .before .before .before .before .if1 .left) (c .before .before .before .before .before .before .before .before .before .before .before .before .before .before .loop-test .taken) _ (c .before .before .before .before .before .before .before .before .before .before .before .before .get-shelf .ensures) _ (c .before .before .before .before .before .before .before .before .before .before .before .items-of .ensures) (omega arith))
-
-add-t-5 : tie.Need-add-t-5 Inv-loop μ-loop
-add-t-5 c =
-    omega
-    (arith, c .before .before .before .before .before .before .before .before .before .before .before .before .before .before .before .before .loop .inv .area-most, c .before .before .before .before .before .before .before .before .before .before .before .before .before .before .before .before .loop .inv .used-most, area-small (c .before .before .before .before .before .before .before .before .before .before .before .before .before .before .before .before .loop .inv) (c .before .before .before .before .before .before .before .before .before .before .before .before .before .before .if1 .left) (c .before .before .before .before .before .before .before .before .before .before .before .before .before .before .before .loop-test .taken) _ (c .before .before .before .before .before .before .before .before .before .before .before .before .before .get-shelf .ensures) _ (c .before .before .before .before .before .before .before .before .before .before .before .before .items-of .ensures) (omega arith))
-
-sub-fuel : tie.Need-sub-fuel Inv-loop μ-loop
-sub-fuel c = omega (arith, c .before .before .before .before .before .before .before .before .before .before .before .before .before .before .before .loop-test .taken)
-
-loop-less : tie.Need-loop-less Inv-loop μ-loop
-loop-less c = omega (arith, c .before .before .before .before .before .before .before .before .before .before .before .before .before .before .before .loop-test .taken)
-
-loop-again : tie.Need-loop-again Inv-loop μ-loop
-loop-again c =
-    past-items (c .before .before .before .before .before .before .before .before .before .before .before .before .before .before .before .before .loop .inv) (c .before .before .before .before .before .before .before .before .before .before .before .before .before .before .if1 .left) (c .before .before .before .before .before .before .before .before .before .before .before .before .before .before .before .loop-test .taken) _ (c .before .before .before .before .before .before .before .before .before .before .before .before .before .get-shelf .ensures) _ (c .before .before .before .before .before .before .before .before .before .before .before .before .items-of .ensures) (omega arith) (c .before .before .before .before .before .before .before .before .before .before .if2 .left)
-
-returns-3 : tie.Need-returns-3 Inv-loop μ-loop
-returns-3 c = totals-out (c .before .loop .inv) (omega arith)
+again : tie.Need-loop-again Inv-loop μ-loop
+again c =
+    let l = c .before .before .before .before .before .before .before .before .before .before .before .before .before .before .before .before .loop in
+    let s = c .before .before .before .before .before .before .before .before .before .before .before .before .before .get-shelf in
+    let of = c .before .before .before .before .before .before .before .before .before .before .before .before .items-of in
+    past-items (l .inv) (c .before .before .before .before .before .before .before .before .before .before .before .before .before .before .if1 .left) (c .before .before .before .before .before .before .before .before .before .before .before .before .before .before .before .loop-test .taken) _ (s .ensures) _ (of .ensures) (omega arith) (c .before .before .before .before .before .before .before .before .before .before .if2 .left)
 
 pub all-items-spec : {M : Type 1} → statement M
 all-items-spec =
@@ -75,20 +54,20 @@ all-items-spec =
     (tie.spec
     Inv-loop
     μ-loop
-    loop-holds
-    returns
-    get-shelf-requires
-    items-of-requires
-    returns-2
-    add-t
-    add-t-2
-    add-t-3
-    add-t-4
-    cast-t
-    cast-t-2
-    mul-t
-    add-t-5
-    sub-fuel
-    loop-less
-    loop-again
-    returns-3)
+    (λ c. totals-begin _ _ _ (omega arith))
+    (λ c. totals-ended (c .before .before .loop .inv) (c .if1 .taken))
+    (λ c κs. tt)
+    (λ c κs. omega arith)
+    refused-shelf
+    (λ c. omega arith)
+    (λ c. omega arith)
+    (λ c. omega arith)
+    strays-fit
+    (λ c. omega arith)
+    (λ c. omega arith)
+    area-fits
+    areas-fit
+    (λ c. omega (arith, c .before .before .before .before .before .before .before .before .before .before .before .before .before .before .before .loop-test .taken))
+    (λ c. omega (arith, c .before .before .before .before .before .before .before .before .before .before .before .before .before .before .before .loop-test .taken))
+    again
+    (λ c. totals-out (c .before .loop .inv) (omega arith)))

@@ -1,5 +1,5 @@
 use borrow.Author.Needs.{needs}
-use Rattle.rows.specs.Row.{get-none, get-short, get-part}
+use Rattle.rows.specs.Row.{get-none, get-short, fit-rows}
 use Rattle.rows.specs.Item.{items}
 use Rattle.rows.proofs.item.get_item.Statement.{statement}
 use Rattle.rows.proofs.item.get_item.Tie as tie
@@ -16,9 +16,5 @@ get-item-spec =
     (λ c. search needs)
     (λ c κs. search needs)
     (λ c. rw (c .no-item2 .ensures) (get-short items _ _ (search needs)))
-    (λ c. search needs)
-    (λ c. search needs)
-    (λ c. search needs)
-    (λ c. search needs)
-    (λ c κs. search needs)
-    (λ c. rw (c .read-item .ensures) (get-part items _ _ (search needs) (search needs))))
+    (λ c κs. fit-rows items _ _ (search needs) (search needs))
+    (λ c. c .item-there .ensures))

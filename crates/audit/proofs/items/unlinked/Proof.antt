@@ -1,0 +1,19 @@
+-- `unlinked`: of two numbers below 65536 only 65535 and 65535 make that sum. Assumes nothing.
+use Prim.Native.Nat.{_+_, _*_}
+use mathlib.Core.Path.{_≡_}
+use native.Mathlib.Omega.{arith}
+use borrow.Author.Needs.{needs}
+use borrow.Author.Tests.{eqb-true, eq-eqb}
+use Rattle.audit.proofs.items.unlinked.Statement.{statement}
+use Rattle.audit.proofs.items.unlinked.Tie as tie
+
+none : tie.Need-returns
+none c =
+    let i = c .before .before .args .i in
+    record {
+      sound = λ e. let q : i .«prev_unallocated» .0 + i .«next_unallocated» .0 * 65536 ≡ 4294967295 = eqb-true _ _ e in omega arith;
+      complete = λ e. let q : i .«prev_unallocated» .0 + i .«next_unallocated» .0 * 65536 ≡ 4294967295 = omega arith in eq-eqb _ _ q;
+    }
+
+pub unlinked-spec : {M : Type 1} → statement M
+unlinked-spec = tie.close (tie.spec (λ c. search needs) (λ c. search needs) (λ c. search needs) (λ c. search needs) none)
