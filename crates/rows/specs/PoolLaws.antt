@@ -168,6 +168,7 @@ shelfRest v = shelfNumbers (withShelfNext (record { 0 = 0 }) v)
 abbrev pub shelfSum : ShelfRow → ℕ
 shelfSum v = v .x + v .y + v .height + v .«is_empty» + (v .prev .0 + v .«first_item» .0 + v .«first_unallocated» .0 + 0)
 
+-- a test of that sum
 tests-sum : {A : Type 0} (r : List ℕ) (n : ℕ) → n ≡ total r → (total r ≡ 0 → A) → (A → total r ≡ 0) → Decides (eqb n 0) A
 tests-sum r n e to from = record { sound = λ t. to (sym e ∙ eqb-true n 0 t); complete = λ a. eq-eqb n 0 (e ∙ from a) }
 
