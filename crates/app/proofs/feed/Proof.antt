@@ -1,3 +1,4 @@
+use native.Mathlib.Omega.{arith}
 use borrow.Author.Needs.{needs}
 use Prim.Native.Nat.{_≤_, _-_}
 use mathlib.Core.Path.{_≡_}
@@ -53,7 +54,7 @@ loop-again-2 : tie.Need-loop-again-2 Inv-loop μ-loop
 loop-again-2 c = search needs
 
 element-write-line : tie.Need-element-write-line Inv-loop μ-loop
-element-write-line c = search needs
+element-write-line c = omega arith
 
 add-have : tie.Need-add-have Inv-loop μ-loop
 add-have c = search needs

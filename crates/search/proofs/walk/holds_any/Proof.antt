@@ -13,4 +13,4 @@ holds-any-spec =
     (λ c. search needs)
     (λ c. search needs)
     (λ c. search needs)
-    (λ c. search needs))
+    (λ c. rw (c .enum-told3 .given .1)))

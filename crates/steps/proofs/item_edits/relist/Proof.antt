@@ -13,4 +13,8 @@ relist-spec =
     (λ c κs. search needs)
     (λ c κs. search needs)
     (λ c. search needs)
-    (λ c. cc))
+    (λ c.
+    let at-prev = c .before .before in
+    let at-next = at-prev .before .before .before .before in
+    let at-links = at-next .before .before .before .before in
+    rw (at-prev .set-prev-unallocated .ensures, at-next .set-next-unallocated .ensures, at-links .set-links .ensures, at-links .before .before .before .before .get-item .ensures)))
