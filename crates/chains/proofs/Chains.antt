@@ -1,18 +1,15 @@
 -- Chains over any kind: a chain splits at an element and joins again, what leaves its rows alone leaves it alone, and its neighbours can be linked anew.
 -- Assumes nothing.
-use Prim.Native.Nat.{ℕ}
-use mathlib.Core.Path.{_≡_, refl, ap, _∙_}
-use mathlib.Core.Logic.{_≢_, _⊎_, inl, inr, ⊎-elim}
-use mathlib.Core.List.{List, [], _∷_, List·Memᴰ·head, List·Memᴰ·tail, List·Memᴰ·not-nil, List·Memᴰ·append-cases, Memᴰ·append-left, Memᴰ·append-right}
-use Rattle.numbers.specs.Index.{noRow}
-use Rattle.chains.specs.Chain.{Kind, firstRow, Chain}
-use Rattle.chains.specs.Lists.{_∈_, Distinct, Apart, Each, gather, back-onto}
+use Rattle.numbers.specs.Library.{ℕ, _≡_, refl, ap, _∙_, _≢_, _⊎_, inl, inr, ⊎-elim, List, [], _∷_, List·Memᴰ·head, List·Memᴰ·tail, List·Memᴰ·not-nil}
+use Rattle.numbers.specs.Library.{List·Memᴰ·append-cases, Memᴰ·append-left, Memᴰ·append-right}
+use Rattle.numbers.specs.Prelude.{noRow}
+use Rattle.chains.specs.Prelude.{Kind, firstRow, Chain, _∈_, Distinct, Apart, Each, gather, backOnto}
 use Rattle.chains.proofs.Lists.{not-out, distinct-append, distinct-left, distinct-right, distinct-apart}
 
 -- ---- the rows of a list around a place in it
 
 module _ {E : Type 0} (f : E → List ℕ) where
-  pub onto-apart : (bs ys : List E) → Distinct (gather f (back-onto bs ys)) → Distinct (gather f bs) × Distinct (gather f ys) × Apart (gather f bs) (gather f ys)
+  pub onto-apart : (bs ys : List E) → Distinct (gather f (backOnto bs ys)) → Distinct (gather f bs) × Distinct (gather f ys) × Apart (gather f bs) (gather f ys)
   onto-apart [] ys d = (tt, d, λ r m k. List·Memᴰ·not-nil m)
   onto-apart (b ∷ bs) ys d =
       let (db, dy, a) = onto-apart bs (b ∷ ys) d in (
@@ -21,14 +18,14 @@ module _ {E : Type 0} (f : E → List ℕ) where
         λ r m k. ⊎-elim (λ q. distinct-apart (f b) (gather f ys) dy r q k) (λ q. a r q (Memᴰ·append-right (f b) k)) (List·Memᴰ·append-cases (f b) m),
       )
 
-  pub apart-onto : (bs ys : List E) → Distinct (gather f bs) → Distinct (gather f ys) → Apart (gather f bs) (gather f ys) → Distinct (gather f (back-onto bs ys))
+  pub apart-onto : (bs ys : List E) → Distinct (gather f bs) → Distinct (gather f ys) → Apart (gather f bs) (gather f ys) → Distinct (gather f (backOnto bs ys))
   apart-onto [] ys db dy a = dy
   apart-onto (b ∷ bs) ys db dy a =
       apart-onto bs (b ∷ ys) (distinct-right (f b) (gather f bs) db)
       (distinct-append (f b) (gather f ys) (distinct-left (f b) (gather f bs) db) dy (λ r m k. a r (Memᴰ·append-left (gather f bs) m) k))
       (λ r m k. ⊎-elim (λ q. distinct-apart (f b) (gather f bs) db r q m) (λ q. a r (Memᴰ·append-right (f b) m) q) (List·Memᴰ·append-cases (f b) k))
 
-  pub in-onto : (r : ℕ) (bs ys : List E) → (r ∈ gather f bs) ⊎ (r ∈ gather f ys) → r ∈ gather f (back-onto bs ys)
+  pub in-onto : (r : ℕ) (bs ys : List E) → (r ∈ gather f bs) ⊎ (r ∈ gather f ys) → r ∈ gather f (backOnto bs ys)
   in-onto r [] ys o = ⊎-elim (λ m. absurd (List·Memᴰ·not-nil m)) (λ m. m) o
   in-onto r (b ∷ bs) ys o =
       in-onto r bs (b ∷ ys)
@@ -37,7 +34,7 @@ module _ {E : Type 0} (f : E → List ℕ) where
       (λ m. inr (Memᴰ·append-right (f b) m))
       o)
 
-  pub onto-in : (r : ℕ) (bs ys : List E) → r ∈ gather f (back-onto bs ys) → (r ∈ gather f bs) ⊎ (r ∈ gather f ys)
+  pub onto-in : (r : ℕ) (bs ys : List E) → r ∈ gather f (backOnto bs ys) → (r ∈ gather f bs) ⊎ (r ∈ gather f ys)
   onto-in r [] ys m = inr m
   onto-in r (b ∷ bs) ys m =
       ⊎-elim
@@ -45,11 +42,11 @@ module _ {E : Type 0} (f : E → List ℕ) where
       (λ q. ⊎-elim (λ w. inl (Memᴰ·append-left (gather f bs) w)) (λ w. inr w) (List·Memᴰ·append-cases (f b) q))
       (onto-in r bs (b ∷ ys) m)
 
-  pub gather-onto : (bs ys zs : List E) → gather f ys ≡ gather f zs → gather f (back-onto bs ys) ≡ gather f (back-onto bs zs)
+  pub gather-onto : (bs ys zs : List E) → gather f ys ≡ gather f zs → gather f (backOnto bs ys) ≡ gather f (backOnto bs zs)
   gather-onto [] ys zs e = e
   gather-onto (b ∷ bs) ys zs e = gather-onto bs (b ∷ ys) (b ∷ zs) (rw e)
 
-  pub onto-map : (r : ℕ) (bs us vs : List E) → (r ∈ gather f us → r ∈ gather f vs) → r ∈ gather f (back-onto bs us) → r ∈ gather f (back-onto bs vs)
+  pub onto-map : (r : ℕ) (bs us vs : List E) → (r ∈ gather f us → r ∈ gather f vs) → r ∈ gather f (backOnto bs us) → r ∈ gather f (backOnto bs vs)
   onto-map r bs us vs h m = in-onto r bs vs (⊎-elim (λ k. inl k) (λ k. inr (h k)) (onto-in r bs us m))
 
   -- fewer rows of each element
@@ -77,11 +74,11 @@ self (r ∷ l) = rw (self l)
 -- ---- each element
 
 module _ {E : Type 0} (P : E → Type 0) where
-  pub each-split : (bs ys : List E) → Each P (back-onto bs ys) → Each P bs × Each P ys
+  pub each-split : (bs ys : List E) → Each P (backOnto bs ys) → Each P bs × Each P ys
   each-split [] ys e = (tt, e)
   each-split (b ∷ bs) ys e = let (eb, ey) = each-split bs (b ∷ ys) e in ((ey .0, eb), ey .1)
 
-  pub each-join : (bs ys : List E) → Each P bs → Each P ys → Each P (back-onto bs ys)
+  pub each-join : (bs ys : List E) → Each P bs → Each P ys → Each P (backOnto bs ys)
   each-join [] ys eb ey = ey
   each-join (b ∷ bs) ys eb ey = each-join bs (b ∷ ys) (eb .1) (eb .0, ey)
 
@@ -103,16 +100,16 @@ module _ {E C : Type 0} (k : Kind E C) where
   Before at [] n = Unit {0}
   Before at (b ∷ bs) n = (at (k .row b) ≡ k .says (firstRow (k .row) bs) b n) × Before at bs (k .row b)
 
-  pub chain-split : (at : ℕ → C) (bs ys : List E) → Chain k at noRow (back-onto bs ys) → Before at bs (firstRow (k .row) ys) × Chain k at (firstRow (k .row) bs) ys
+  pub chain-split : (at : ℕ → C) (bs ys : List E) → Chain k at noRow (backOnto bs ys) → Before at bs (firstRow (k .row) ys) × Chain k at (firstRow (k .row) bs) ys
   chain-split at [] ys c = (tt, c)
   chain-split at (b ∷ bs) ys c = let (cb, cy) = chain-split at bs (b ∷ ys) c in ((cy .0, cb), cy .1)
 
-  pub chain-join : (at : ℕ → C) (bs ys : List E) → Before at bs (firstRow (k .row) ys) → Chain k at (firstRow (k .row) bs) ys → Chain k at noRow (back-onto bs ys)
+  pub chain-join : (at : ℕ → C) (bs ys : List E) → Before at bs (firstRow (k .row) ys) → Chain k at (firstRow (k .row) bs) ys → Chain k at noRow (backOnto bs ys)
   chain-join at [] ys cb cy = cy
   chain-join at (b ∷ bs) ys cb cy = chain-join at bs (b ∷ ys) (cb .1) (cb .0, cy)
 
   -- the first row rests on what stands before a place and on the row there
-  pub first-onto : (bs : List E) (y z : E) (ys zs : List E) → k .row y ≡ k .row z → firstRow (k .row) (back-onto bs (y ∷ ys)) ≡ firstRow (k .row) (back-onto bs (z ∷ zs))
+  pub first-onto : (bs : List E) (y z : E) (ys zs : List E) → k .row y ≡ k .row z → firstRow (k .row) (backOnto bs (y ∷ ys)) ≡ firstRow (k .row) (backOnto bs (z ∷ zs))
   first-onto [] y z ys zs e = e
   first-onto (b ∷ bs) y z ys zs e = first-onto bs b b (y ∷ ys) (z ∷ zs) refl
 
@@ -120,7 +117,7 @@ module _ {E C : Type 0} (k : Kind E C) where
   ne-first [] r n out = n
   ne-first (x ∷ xs) r n out = λ e. out (List·Memᴰ·head e)
 
-  pub first-in : (b : E) (bs ys : List E) → firstRow (k .row) (back-onto bs (b ∷ ys)) ∈ rowsOf (b ∷ bs)
+  pub first-in : (b : E) (bs ys : List E) → firstRow (k .row) (backOnto bs (b ∷ ys)) ∈ rowsOf (b ∷ bs)
   first-in b [] ys = List·Memᴰ·head refl
   first-in b (c ∷ bs) ys = List·Memᴰ·tail (first-in c bs (b ∷ ys))
 
@@ -161,10 +158,10 @@ module _ {E C : Type 0} (k : Kind E C) where
     )
 
     -- an element replaced by another in the same row
-    pub chain-replace : (bs : List E) (e e′ : E) (ys : List E) → k .row e′ ≡ k .row e → Distinct (rowsOf (back-onto bs (e ∷ ys)))
-        → ((r : ℕ) → r ∈ rowsOf (back-onto bs (e ∷ ys)) → r ≢ k .row e → at′ r ≡ at r)
+    pub chain-replace : (bs : List E) (e e′ : E) (ys : List E) → k .row e′ ≡ k .row e → Distinct (rowsOf (backOnto bs (e ∷ ys)))
+        → ((r : ℕ) → r ∈ rowsOf (backOnto bs (e ∷ ys)) → r ≢ k .row e → at′ r ≡ at r)
         → (at (k .row e) ≡ k .says (firstRow (k .row) bs) e (firstRow (k .row) ys) → at′ (k .row e) ≡ k .says (firstRow (k .row) bs) e′ (firstRow (k .row) ys))
-        → Chain k at noRow (back-onto bs (e ∷ ys)) → Chain k at′ noRow (back-onto bs (e′ ∷ ys))
+        → Chain k at noRow (backOnto bs (e ∷ ys)) → Chain k at′ noRow (backOnto bs (e′ ∷ ys))
     chain-replace bs e e′ ys q d same here c =
         let (cb, cy) = chain-split at bs (e ∷ ys) c in
         let (db, dy, apart) = onto-apart (λ x. k .row x ∷ []) bs (e ∷ ys) d in

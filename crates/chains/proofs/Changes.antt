@@ -1,14 +1,12 @@
 -- The changes of a chain at one place, over any kind: an element inserted after another, merged into the one before it, taken out, put in another's
 -- place. Each asks what the table says afterwards of the rows that it touches, and that it says the same of all others. Assumes nothing.
-use Prim.Native.Nat.{ℕ}
-use mathlib.Core.Path.{_≡_, refl, sym}
-use mathlib.Core.Logic.{_≢_, _⊎_, inl, inr, ⊎-elim}
-use mathlib.Core.List.{List, [], _∷_, _++_, List·Memᴰ·head, List·Memᴰ·tail, List·Memᴰ·cases-cons, List·Memᴰ·append-cases, Memᴰ·cast, Memᴰ·append-left, Memᴰ·append-right}
-use Rattle.numbers.specs.Index.{noRow}
-use Rattle.chains.specs.Chain.{Kind, firstRow, Chain}
-use Rattle.chains.specs.Lists.{_∈_, Distinct, gather, back-onto}
+use Rattle.numbers.specs.Library.{ℕ, _≡_, refl, sym, _≢_, _⊎_, inl, inr, ⊎-elim, List, [], _∷_, _++_, List·Memᴰ·head, List·Memᴰ·tail, List·Memᴰ·cases-cons}
+use Rattle.numbers.specs.Library.{List·Memᴰ·append-cases, Memᴰ·cast, Memᴰ·append-left, Memᴰ·append-right}
+use Rattle.numbers.specs.Prelude.{noRow}
+use Rattle.chains.specs.Prelude.{Kind, firstRow, Chain, _∈_, Distinct, gather, backOnto}
 use Rattle.chains.proofs.Lists.{not-out, distinct-append, distinct-left, distinct-right, distinct-apart}
-use Rattle.chains.proofs.Chains.{onto-apart, apart-onto, in-onto, onto-in, rowsOf, Before, chain-split, chain-join, before-frame, relink-after, relink-before, ne-first}
+use Rattle.chains.proofs.Chains.{onto-apart, apart-onto, in-onto, onto-in, rowsOf, Before, chain-split, chain-join, before-frame, relink-after}
+use Rattle.chains.proofs.Chains.{relink-before, ne-first}
 
 module _ {E C : Type 0} (k : Kind E C) (at at′ : ℕ → C) where
   abbrev only-row : E → List ℕ
@@ -16,18 +14,18 @@ module _ {E C : Type 0} (k : Kind E C) (at at′ : ℕ → C) where
 
   -- n after e, which becomes e′
   pub chain-insert : (bs : List E) (e e′ n : E) (ys : List E) → k .row e′ ≡ k .row e
-      → Distinct (rowsOf k (back-onto bs (e ∷ ys))) → ((r : ℕ) → r ∈ rowsOf k (back-onto bs (e ∷ ys)) → r ≢ noRow)
+      → Distinct (rowsOf k (backOnto bs (e ∷ ys))) → ((r : ℕ) → r ∈ rowsOf k (backOnto bs (e ∷ ys)) → r ≢ noRow)
       → (f : C → C) → ((x : E) (m : ℕ) → f (k .says (k .row e) x m) ≡ k .says (k .row n) x m)
-      → ((r : ℕ) → r ∈ rowsOf k (back-onto bs (e ∷ ys)) → r ≢ k .row e → r ≢ firstRow (k .row) ys → at′ r ≡ at r)
-      → ((r : ℕ) → r ∈ rowsOf k (back-onto bs (e ∷ ys)) → r ≢ k .row e → r ≡ firstRow (k .row) ys → at′ r ≡ f (at r))
+      → ((r : ℕ) → r ∈ rowsOf k (backOnto bs (e ∷ ys)) → r ≢ k .row e → r ≢ firstRow (k .row) ys → at′ r ≡ at r)
+      → ((r : ℕ) → r ∈ rowsOf k (backOnto bs (e ∷ ys)) → r ≢ k .row e → r ≡ firstRow (k .row) ys → at′ r ≡ f (at r))
       → (at (k .row e) ≡ k .says (firstRow (k .row) bs) e (firstRow (k .row) ys) → k .row e ≢ firstRow (k .row) ys
       → (at′ (k .row e) ≡ k .says (firstRow (k .row) bs) e′ (k .row n)) × (at′ (k .row n) ≡ k .says (k .row e) n (firstRow (k .row) ys)))
-      → Chain k at noRow (back-onto bs (e ∷ ys)) → Chain k at′ noRow (back-onto bs (e′ ∷ n ∷ ys))
+      → Chain k at noRow (backOnto bs (e ∷ ys)) → Chain k at′ noRow (backOnto bs (e′ ∷ n ∷ ys))
   chain-insert bs e e′ n ys q d nn f law same next here c =
       let (cb, cy) = chain-split k at bs (e ∷ ys) c in
       let (db, dy, apart) = onto-apart only-row bs (e ∷ ys) d in
-      let b-in : (r : ℕ) → r ∈ rowsOf k bs → r ∈ rowsOf k (back-onto bs (e ∷ ys)) = λ r m. in-onto only-row r bs (e ∷ ys) (inl m) in
-      let y-in : (r : ℕ) → r ∈ rowsOf k (e ∷ ys) → r ∈ rowsOf k (back-onto bs (e ∷ ys)) = λ r m. in-onto only-row r bs (e ∷ ys) (inr m) in
+      let b-in : (r : ℕ) → r ∈ rowsOf k bs → r ∈ rowsOf k (backOnto bs (e ∷ ys)) = λ r m. in-onto only-row r bs (e ∷ ys) (inl m) in
+      let y-in : (r : ℕ) → r ∈ rowsOf k (e ∷ ys) → r ∈ rowsOf k (backOnto bs (e ∷ ys)) = λ r m. in-onto only-row r bs (e ∷ ys) (inr m) in
       let (h, hn) = here (cy .0) (ne-first k ys (k .row e) (nn (k .row e) (y-in (k .row e) (List·Memᴰ·head refl))) (dy .0)) in
       chain-join k at′ bs (e′ ∷ n ∷ ys)
       (rw q (before-frame k at at′ (k .row e) bs
@@ -44,18 +42,18 @@ module _ {E C : Type 0} (k : Kind E C) (at at′ : ℕ → C) where
 
   -- s, which follows e, merged into e, which becomes e′
   pub chain-drop : (bs : List E) (e e′ s : E) (ys : List E) → k .row e′ ≡ k .row e
-      → Distinct (rowsOf k (back-onto bs (e ∷ s ∷ ys))) → ((r : ℕ) → r ∈ rowsOf k (back-onto bs (e ∷ s ∷ ys)) → r ≢ noRow)
+      → Distinct (rowsOf k (backOnto bs (e ∷ s ∷ ys))) → ((r : ℕ) → r ∈ rowsOf k (backOnto bs (e ∷ s ∷ ys)) → r ≢ noRow)
       → (f : C → C) → ((x : E) (m : ℕ) → f (k .says (k .row s) x m) ≡ k .says (k .row e) x m)
-      → ((r : ℕ) → r ∈ rowsOf k (back-onto bs (e ∷ s ∷ ys)) → r ≢ k .row e → r ≢ k .row s → r ≢ firstRow (k .row) ys → at′ r ≡ at r)
-      → ((r : ℕ) → r ∈ rowsOf k (back-onto bs (e ∷ s ∷ ys)) → r ≢ k .row e → r ≢ k .row s → r ≡ firstRow (k .row) ys → at′ r ≡ f (at r))
+      → ((r : ℕ) → r ∈ rowsOf k (backOnto bs (e ∷ s ∷ ys)) → r ≢ k .row e → r ≢ k .row s → r ≢ firstRow (k .row) ys → at′ r ≡ at r)
+      → ((r : ℕ) → r ∈ rowsOf k (backOnto bs (e ∷ s ∷ ys)) → r ≢ k .row e → r ≢ k .row s → r ≡ firstRow (k .row) ys → at′ r ≡ f (at r))
       → (at (k .row e) ≡ k .says (firstRow (k .row) bs) e (k .row s) → at (k .row s) ≡ k .says (k .row e) s (firstRow (k .row) ys) → k .row e ≢ k .row s → k .row e ≢ firstRow (k .row) ys
       → at′ (k .row e) ≡ k .says (firstRow (k .row) bs) e′ (firstRow (k .row) ys))
-      → Chain k at noRow (back-onto bs (e ∷ s ∷ ys)) → Chain k at′ noRow (back-onto bs (e′ ∷ ys))
+      → Chain k at noRow (backOnto bs (e ∷ s ∷ ys)) → Chain k at′ noRow (backOnto bs (e′ ∷ ys))
   chain-drop bs e e′ s ys q d nn f law same next here c =
       let (cb, cy) = chain-split k at bs (e ∷ s ∷ ys) c in
       let (db, dy, apart) = onto-apart only-row bs (e ∷ s ∷ ys) d in
-      let b-in : (r : ℕ) → r ∈ rowsOf k bs → r ∈ rowsOf k (back-onto bs (e ∷ s ∷ ys)) = λ r m. in-onto only-row r bs (e ∷ s ∷ ys) (inl m) in
-      let y-in : (r : ℕ) → r ∈ rowsOf k (e ∷ s ∷ ys) → r ∈ rowsOf k (back-onto bs (e ∷ s ∷ ys)) = λ r m. in-onto only-row r bs (e ∷ s ∷ ys) (inr m) in
+      let b-in : (r : ℕ) → r ∈ rowsOf k bs → r ∈ rowsOf k (backOnto bs (e ∷ s ∷ ys)) = λ r m. in-onto only-row r bs (e ∷ s ∷ ys) (inl m) in
+      let y-in : (r : ℕ) → r ∈ rowsOf k (e ∷ s ∷ ys) → r ∈ rowsOf k (backOnto bs (e ∷ s ∷ ys)) = λ r m. in-onto only-row r bs (e ∷ s ∷ ys) (inr m) in
       let ne-e : (r : ℕ) → r ∈ rowsOf k ys → r ≢ k .row e = λ r m. not-out (dy .0) (List·Memᴰ·tail m) in
       let h : at′ (k .row e) ≡ k .says (firstRow (k .row) bs) e′ (firstRow (k .row) ys) =
       here (cy .0) (cy .1 .0) (λ w. dy .0 (List·Memᴰ·head w)) (ne-first k ys (k .row e) (nn (k .row e) (y-in (k .row e) (List·Memᴰ·head refl))) (λ w. dy .0 (List·Memᴰ·tail w))) in
@@ -72,16 +70,16 @@ module _ {E C : Type 0} (k : Kind E C) (at at′ : ℕ → C) where
 
   -- e taken out: what stood before it and after it is linked to p and q, which are each other or a new row between them
   module _ (bs : List E) (e : E) (ys : List E) (p q : ℕ)
-      (d : Distinct (rowsOf k (back-onto bs (e ∷ ys)))) (nn : (r : ℕ) → r ∈ rowsOf k (back-onto bs (e ∷ ys)) → r ≢ noRow)
+      (d : Distinct (rowsOf k (backOnto bs (e ∷ ys)))) (nn : (r : ℕ) → r ∈ rowsOf k (backOnto bs (e ∷ ys)) → r ≢ noRow)
       (g f : C → C) (law-g : (m : ℕ) (x : E) → g (k .says m x (k .row e)) ≡ k .says m x q) (law-f : (x : E) (m : ℕ) → f (k .says (k .row e) x m) ≡ k .says p x m)
-      (same : (r : ℕ) → r ∈ rowsOf k (back-onto bs (e ∷ ys)) → r ≢ k .row e → r ≢ firstRow (k .row) bs → r ≢ firstRow (k .row) ys → at′ r ≡ at r)
-      (prev : (r : ℕ) → r ∈ rowsOf k (back-onto bs (e ∷ ys)) → r ≢ k .row e → r ≡ firstRow (k .row) bs → r ≢ firstRow (k .row) ys → at′ r ≡ g (at r))
-      (next : (r : ℕ) → r ∈ rowsOf k (back-onto bs (e ∷ ys)) → r ≢ k .row e → r ≢ firstRow (k .row) bs → r ≡ firstRow (k .row) ys → at′ r ≡ f (at r)) where
+      (same : (r : ℕ) → r ∈ rowsOf k (backOnto bs (e ∷ ys)) → r ≢ k .row e → r ≢ firstRow (k .row) bs → r ≢ firstRow (k .row) ys → at′ r ≡ at r)
+      (prev : (r : ℕ) → r ∈ rowsOf k (backOnto bs (e ∷ ys)) → r ≢ k .row e → r ≡ firstRow (k .row) bs → r ≢ firstRow (k .row) ys → at′ r ≡ g (at r))
+      (next : (r : ℕ) → r ∈ rowsOf k (backOnto bs (e ∷ ys)) → r ≢ k .row e → r ≢ firstRow (k .row) bs → r ≡ firstRow (k .row) ys → at′ r ≡ f (at r)) where
     apart-ends : Before k at bs (k .row e) → Chain k at (k .row e) ys → Before k at′ bs q × Chain k at′ p ys
     apart-ends cb cy =
         let (db, dy, apart) = onto-apart only-row bs (e ∷ ys) d in
-        let b-in : (r : ℕ) → r ∈ rowsOf k bs → r ∈ rowsOf k (back-onto bs (e ∷ ys)) = λ r m. in-onto only-row r bs (e ∷ ys) (inl m) in
-        let y-in : (r : ℕ) → r ∈ rowsOf k ys → r ∈ rowsOf k (back-onto bs (e ∷ ys)) = λ r m. in-onto only-row r bs (e ∷ ys) (inr (List·Memᴰ·tail m)) in
+        let b-in : (r : ℕ) → r ∈ rowsOf k bs → r ∈ rowsOf k (backOnto bs (e ∷ ys)) = λ r m. in-onto only-row r bs (e ∷ ys) (inl m) in
+        let y-in : (r : ℕ) → r ∈ rowsOf k ys → r ∈ rowsOf k (backOnto bs (e ∷ ys)) = λ r m. in-onto only-row r bs (e ∷ ys) (inr (List·Memᴰ·tail m)) in
         let b-e : (r : ℕ) → r ∈ rowsOf k bs → r ≢ k .row e = λ r m w. apart r m (List·Memᴰ·head w) in
         let b-y : (r : ℕ) → r ∈ rowsOf k bs → r ≢ firstRow (k .row) ys = λ r m. ne-first k ys r (nn r (b-in r m)) (λ w. apart r m (List·Memᴰ·tail w)) in
         let y-b : (r : ℕ) → r ∈ rowsOf k ys → r ≢ firstRow (k .row) bs = λ r m. ne-first k bs r (nn r (y-in r m)) (λ w. apart r w (List·Memᴰ·tail m)) in (
@@ -91,12 +89,12 @@ module _ {E C : Type 0} (k : Kind E C) (at at′ : ℕ → C) where
 
   -- e taken out
   pub chain-remove : (bs : List E) (e : E) (ys : List E)
-      → Distinct (rowsOf k (back-onto bs (e ∷ ys))) → ((r : ℕ) → r ∈ rowsOf k (back-onto bs (e ∷ ys)) → r ≢ noRow)
+      → Distinct (rowsOf k (backOnto bs (e ∷ ys))) → ((r : ℕ) → r ∈ rowsOf k (backOnto bs (e ∷ ys)) → r ≢ noRow)
       → (g f : C → C) → ((m : ℕ) (x : E) → g (k .says m x (k .row e)) ≡ k .says m x (firstRow (k .row) ys)) → ((x : E) (m : ℕ) → f (k .says (k .row e) x m) ≡ k .says (firstRow (k .row) bs) x m)
-      → ((r : ℕ) → r ∈ rowsOf k (back-onto bs (e ∷ ys)) → r ≢ k .row e → r ≢ firstRow (k .row) bs → r ≢ firstRow (k .row) ys → at′ r ≡ at r)
-      → ((r : ℕ) → r ∈ rowsOf k (back-onto bs (e ∷ ys)) → r ≢ k .row e → r ≡ firstRow (k .row) bs → r ≢ firstRow (k .row) ys → at′ r ≡ g (at r))
-      → ((r : ℕ) → r ∈ rowsOf k (back-onto bs (e ∷ ys)) → r ≢ k .row e → r ≢ firstRow (k .row) bs → r ≡ firstRow (k .row) ys → at′ r ≡ f (at r))
-      → Chain k at noRow (back-onto bs (e ∷ ys)) → Chain k at′ noRow (back-onto bs ys)
+      → ((r : ℕ) → r ∈ rowsOf k (backOnto bs (e ∷ ys)) → r ≢ k .row e → r ≢ firstRow (k .row) bs → r ≢ firstRow (k .row) ys → at′ r ≡ at r)
+      → ((r : ℕ) → r ∈ rowsOf k (backOnto bs (e ∷ ys)) → r ≢ k .row e → r ≡ firstRow (k .row) bs → r ≢ firstRow (k .row) ys → at′ r ≡ g (at r))
+      → ((r : ℕ) → r ∈ rowsOf k (backOnto bs (e ∷ ys)) → r ≢ k .row e → r ≢ firstRow (k .row) bs → r ≡ firstRow (k .row) ys → at′ r ≡ f (at r))
+      → Chain k at noRow (backOnto bs (e ∷ ys)) → Chain k at′ noRow (backOnto bs ys)
   chain-remove bs e ys d nn g f lg lf same prev next c =
       let (cb, cy) = chain-split k at bs (e ∷ ys) c in
       let (nb, ny) = apart-ends bs e ys (firstRow (k .row) bs) (firstRow (k .row) ys) d nn g f lg lf same prev next cb (cy .1) in
@@ -104,13 +102,13 @@ module _ {E C : Type 0} (k : Kind E C) (at at′ : ℕ → C) where
 
   -- n put in the place of e
   pub chain-swap : (bs : List E) (e n : E) (ys : List E)
-      → Distinct (rowsOf k (back-onto bs (e ∷ ys))) → ((r : ℕ) → r ∈ rowsOf k (back-onto bs (e ∷ ys)) → r ≢ noRow)
+      → Distinct (rowsOf k (backOnto bs (e ∷ ys))) → ((r : ℕ) → r ∈ rowsOf k (backOnto bs (e ∷ ys)) → r ≢ noRow)
       → (g f : C → C) → ((m : ℕ) (x : E) → g (k .says m x (k .row e)) ≡ k .says m x (k .row n)) → ((x : E) (m : ℕ) → f (k .says (k .row e) x m) ≡ k .says (k .row n) x m)
-      → ((r : ℕ) → r ∈ rowsOf k (back-onto bs (e ∷ ys)) → r ≢ k .row e → r ≢ firstRow (k .row) bs → r ≢ firstRow (k .row) ys → at′ r ≡ at r)
-      → ((r : ℕ) → r ∈ rowsOf k (back-onto bs (e ∷ ys)) → r ≢ k .row e → r ≡ firstRow (k .row) bs → r ≢ firstRow (k .row) ys → at′ r ≡ g (at r))
-      → ((r : ℕ) → r ∈ rowsOf k (back-onto bs (e ∷ ys)) → r ≢ k .row e → r ≢ firstRow (k .row) bs → r ≡ firstRow (k .row) ys → at′ r ≡ f (at r))
+      → ((r : ℕ) → r ∈ rowsOf k (backOnto bs (e ∷ ys)) → r ≢ k .row e → r ≢ firstRow (k .row) bs → r ≢ firstRow (k .row) ys → at′ r ≡ at r)
+      → ((r : ℕ) → r ∈ rowsOf k (backOnto bs (e ∷ ys)) → r ≢ k .row e → r ≡ firstRow (k .row) bs → r ≢ firstRow (k .row) ys → at′ r ≡ g (at r))
+      → ((r : ℕ) → r ∈ rowsOf k (backOnto bs (e ∷ ys)) → r ≢ k .row e → r ≢ firstRow (k .row) bs → r ≡ firstRow (k .row) ys → at′ r ≡ f (at r))
       → (at (k .row e) ≡ k .says (firstRow (k .row) bs) e (firstRow (k .row) ys) → at′ (k .row n) ≡ k .says (firstRow (k .row) bs) n (firstRow (k .row) ys))
-      → Chain k at noRow (back-onto bs (e ∷ ys)) → Chain k at′ noRow (back-onto bs (n ∷ ys))
+      → Chain k at noRow (backOnto bs (e ∷ ys)) → Chain k at′ noRow (backOnto bs (n ∷ ys))
   chain-swap bs e n ys d nn g f lg lf same prev next here c =
       let (cb, cy) = chain-split k at bs (e ∷ ys) c in
       let (nb, ny) = apart-ends bs e ys (k .row n) (k .row n) d nn g f lg lf same prev next cb (cy .1) in
@@ -120,14 +118,14 @@ module _ {E C : Type 0} (k : Kind E C) (at at′ : ℕ → C) where
 
 module _ {E : Type 0} (f : E → List ℕ) where
   -- e becomes e′, with the same rows, and n follows it
-  pub rows-insert : (bs : List E) (e e′ n : E) (ys : List E) (x : ℕ) → f e′ ≡ f e → f n ≡ x ∷ [] → Distinct (gather f (back-onto bs (e ∷ ys))) → (x ∈ gather f (back-onto bs (e ∷ ys)) → ⊥)
-      → Distinct (gather f (back-onto bs (e′ ∷ n ∷ ys)))
-      × ((r : ℕ) → r ∈ gather f (back-onto bs (e′ ∷ n ∷ ys)) → (r ≡ x) ⊎ (r ∈ gather f (back-onto bs (e ∷ ys))))
-      × ((r : ℕ) → (r ≡ x) ⊎ (r ∈ gather f (back-onto bs (e ∷ ys))) → r ∈ gather f (back-onto bs (e′ ∷ n ∷ ys)))
+  pub rows-insert : (bs : List E) (e e′ n : E) (ys : List E) (x : ℕ) → f e′ ≡ f e → f n ≡ x ∷ [] → Distinct (gather f (backOnto bs (e ∷ ys))) → (x ∈ gather f (backOnto bs (e ∷ ys)) → ⊥)
+      → Distinct (gather f (backOnto bs (e′ ∷ n ∷ ys)))
+      × ((r : ℕ) → r ∈ gather f (backOnto bs (e′ ∷ n ∷ ys)) → (r ≡ x) ⊎ (r ∈ gather f (backOnto bs (e ∷ ys))))
+      × ((r : ℕ) → (r ≡ x) ⊎ (r ∈ gather f (backOnto bs (e ∷ ys))) → r ∈ gather f (backOnto bs (e′ ∷ n ∷ ys)))
   rows-insert bs e e′ n ys x q qn d out =
       let (db, dy, apart) = onto-apart f bs (e ∷ ys) d in
-      let b-in : (r : ℕ) → r ∈ gather f bs → r ∈ gather f (back-onto bs (e ∷ ys)) = λ r m. in-onto f r bs (e ∷ ys) (inl m) in
-      let y-in : (r : ℕ) → r ∈ gather f (e ∷ ys) → r ∈ gather f (back-onto bs (e ∷ ys)) = λ r m. in-onto f r bs (e ∷ ys) (inr m) in
+      let b-in : (r : ℕ) → r ∈ gather f bs → r ∈ gather f (backOnto bs (e ∷ ys)) = λ r m. in-onto f r bs (e ∷ ys) (inl m) in
+      let y-in : (r : ℕ) → r ∈ gather f (e ∷ ys) → r ∈ gather f (backOnto bs (e ∷ ys)) = λ r m. in-onto f r bs (e ∷ ys) (inr m) in
       let to : (r : ℕ) → r ∈ gather f (e′ ∷ n ∷ ys) → (r ≡ x) ⊎ (r ∈ gather f (e ∷ ys)) = λ r m.
       ⊎-elim
       (λ w. inr (Memᴰ·append-left (gather f ys) w))
@@ -149,11 +147,11 @@ module _ {E : Type 0} (f : E → List ℕ) where
       )
 
   -- e becomes e′, with the same rows, and s, which follows it, goes
-  pub rows-drop : (bs : List E) (e e′ s : E) (ys : List E) (x : ℕ) → f e′ ≡ f e → f s ≡ x ∷ [] → Distinct (gather f (back-onto bs (e ∷ s ∷ ys)))
-      → Distinct (gather f (back-onto bs (e′ ∷ ys)))
-      × (x ∈ gather f (back-onto bs (e ∷ s ∷ ys)))
-      × ((r : ℕ) → r ∈ gather f (back-onto bs (e′ ∷ ys)) → (r ∈ gather f (back-onto bs (e ∷ s ∷ ys))) × (r ≢ x))
-      × ((r : ℕ) → r ∈ gather f (back-onto bs (e ∷ s ∷ ys)) → r ≢ x → r ∈ gather f (back-onto bs (e′ ∷ ys)))
+  pub rows-drop : (bs : List E) (e e′ s : E) (ys : List E) (x : ℕ) → f e′ ≡ f e → f s ≡ x ∷ [] → Distinct (gather f (backOnto bs (e ∷ s ∷ ys)))
+      → Distinct (gather f (backOnto bs (e′ ∷ ys)))
+      × (x ∈ gather f (backOnto bs (e ∷ s ∷ ys)))
+      × ((r : ℕ) → r ∈ gather f (backOnto bs (e′ ∷ ys)) → (r ∈ gather f (backOnto bs (e ∷ s ∷ ys))) × (r ≢ x))
+      × ((r : ℕ) → r ∈ gather f (backOnto bs (e ∷ s ∷ ys)) → r ≢ x → r ∈ gather f (backOnto bs (e′ ∷ ys)))
   rows-drop bs e e′ s ys x q qs d =
       let (db, dy₀, apart) = onto-apart f bs (e ∷ s ∷ ys) d in
       let dy : Distinct (f e ++ x ∷ gather f ys) = rw qs at dy₀ in

@@ -1,16 +1,9 @@
 -- A chain that ends: its rows are the only ones that lead from its first row to no row, they are distinct, and a walk of as many steps as
 -- there are used rows meets them all. So a walk needs no marks, and no links back. Assumes nothing.
-use mathlib.Core.Path.{_≡_, refl, sym, ap, _∙_}
-use mathlib.Core.Logic.{_⊎_, ⊎-elim}
-use mathlib.Core.List.{List, [], _∷_, List·Memᴰ, List·Memᴰ·not-nil, List·Memᴰ·cases-cons}
-use Prim.Native.Nat.{ℕ, zero, suc, _≤_, _<_}
-use native.Mathlib.Omega.{arith}
-use borrow.Author.Tests.{ne-eqb}
-use lib.ListN.{length}
-use Rattle.numbers.specs.Index.{noRow}
-use Rattle.chains.specs.Lists.{Distinct}
-use Rattle.chains.specs.Chain.{firstOf}
-use Rattle.chains.specs.Walk.{rowsFrom, Ends}
+use Rattle.numbers.specs.Library.{_≡_, refl, sym, ap, _∙_, ⊎-elim, List, [], _∷_, List·Memᴰ, List·Memᴰ·not-nil, List·Memᴰ·cases-cons, ℕ, zero, suc, _≤_, _<_}
+use Rattle.numbers.specs.Library.{arith, ne-eqb, length}
+use Rattle.numbers.specs.Prelude.{noRow}
+use Rattle.chains.specs.Prelude.{Distinct, firstOf, rowsFrom, Ends}
 use Rattle.chains.proofs.Lists.{distinct-below}
 
 module _ (nx : ℕ → ℕ) (n : ℕ) (b : n ≤ noRow) where

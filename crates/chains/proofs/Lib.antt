@@ -5,3 +5,4 @@ pub mod Ends
 pub mod Walks
 pub mod Members
 pub mod Turns
+pub mod Prelude

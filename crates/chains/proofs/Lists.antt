@@ -1,14 +1,11 @@
 -- Lists of distinct numbers: one that lies within another is no longer than it; of numbers below `n` there are at most `n`, and where
 -- there are `n`, every number below `n` is among them. Assumes nothing.
-use mathlib.Core.Path.{_≡_, refl, sym, ap, _∙_}
-use mathlib.Core.Logic.{_≢_, _⊎_, ⊎-elim}
-use mathlib.Core.List.{List, [], _∷_, _++_, List·Memᴰ, List·Memᴰ·head, List·Memᴰ·tail, List·Memᴰ·not-nil, List·Memᴰ·cases-cons, List·Memᴰ·append-cases, Memᴰ·cast, Memᴰ·append-left, Memᴰ·append-right}
-use Prim.Native.Nat.{ℕ, zero, suc, _+_, _≤_, _<_, zero-le}
+use Rattle.numbers.specs.Library.{_≡_, refl, sym, ap, _∙_, _≢_, ⊎-elim, List, [], _∷_, _++_, List·Memᴰ, List·Memᴰ·head, List·Memᴰ·tail, List·Memᴰ·not-nil}
+use Rattle.numbers.specs.Library.{List·Memᴰ·cases-cons, List·Memᴰ·append-cases, Memᴰ·cast, Memᴰ·append-left, Memᴰ·append-right, ℕ, zero, suc, _≤_, _<_}
+use Rattle.numbers.specs.Library.{ℕ-discrete, arith, length}
+use Prim.Native.Nat.{zero-le}
 use native.Mathlib.Nat.{not-suc-le-zero}
-use native.Mathlib.Decide.{ℕ-discrete}
-use native.Mathlib.Omega.{arith}
-use lib.ListN.{length}
-use Rattle.chains.specs.Lists.{Distinct}
+use Rattle.chains.specs.Prelude.{Distinct}
 
 -- a member is another number than one that is no member
 pub not-out : {x y : ℕ} {l : List ℕ} → (List·Memᴰ x l → ⊥) → List·Memᴰ y l → y ≢ x

@@ -1,11 +1,7 @@
 -- Rows of lists: what each of them has, rows gathered from rows, and used rows that each serve once. Assumes nothing.
-use mathlib.Core.Path.{_≡_, refl, sym, _∙_}
-use mathlib.Core.Logic.{_⊎_, ⊎-elim}
-use mathlib.Core.List.{List, [], _∷_, _++_, List·Memᴰ·head, List·Memᴰ·tail, List·Memᴰ·not-nil, List·Memᴰ·cases-cons, List·Memᴰ·append-cases, Memᴰ·cast, Memᴰ·append-left, Memᴰ·append-right}
-use Prim.Native.Nat.{ℕ, _+_, _≤_, _<_}
-use native.Mathlib.Omega.{arith}
-use lib.ListN.{length, length-append}
-use Rattle.chains.specs.Lists.{_∈_, Distinct, Each, gather}
+use Rattle.numbers.specs.Library.{_≡_, refl, sym, _∙_, ⊎-elim, List, [], _∷_, _++_, List·Memᴰ·head, List·Memᴰ·tail, List·Memᴰ·not-nil, List·Memᴰ·cases-cons}
+use Rattle.numbers.specs.Library.{List·Memᴰ·append-cases, Memᴰ·cast, Memᴰ·append-left, Memᴰ·append-right, ℕ, _+_, _≤_, _<_, arith, length, length-append}
+use Rattle.chains.specs.Prelude.{_∈_, Distinct, Each, gather}
 use Rattle.chains.proofs.Lists.{decMemᴰ, distinct-append, distinct-all, distinct-below, covers-length}
 
 -- ---- what each has

@@ -1,15 +1,8 @@
 -- Loops along a chain, turn by turn: one that decides whether a rule holds along it (`Deciding`), one that asks something of each row by itself
 -- (`Eaching`), and one that counts its steps down (`Lasting`). Assumes nothing.
-use mathlib.Core.Path.{_≡_, refl}
-use mathlib.Core.Logic.{_≢_}
-use mathlib.Core.List.{[], _∷_}
-use Prim.Native.Nat.{ℕ, zero, suc, _+_, _-_, _≤_, _<_}
-use native.Mathlib.Omega.{arith}
-use borrow.Author.Tests.{eq-eqb, ne-eqb}
-use lib.ListN.{length}
-use Rattle.numbers.specs.Index.{noRow}
-use Rattle.chains.specs.Lists.{Each}
-use Rattle.chains.specs.Walk.{rowsFrom, Walk}
+use Rattle.numbers.specs.Library.{_≡_, refl, _≢_, [], _∷_, ℕ, zero, suc, _+_, _-_, _≤_, _<_, arith, eq-eqb, ne-eqb, length}
+use Rattle.numbers.specs.Prelude.{noRow}
+use Rattle.chains.specs.Prelude.{Each, rowsFrom, Walk}
 use Rattle.chains.proofs.Walks.{Rest, Step, step, unstep, end, unend, start, unstart}
 
 -- ---- deciding

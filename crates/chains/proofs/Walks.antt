@@ -1,16 +1,10 @@
 -- The proof of a loop along a chain, once for all of them: a loop that carries a state along unchecked links decides whether a rule holds along them.
 -- `Rest` says what has still to hold, from the row that the loop has come to; `step` and `unstep` are one turn, `end` and `unend` the loop's end.
--- Then what follows from a rule along a chain. Assumes nothing.
-use mathlib.Core.Path.{_≡_, refl, sym}
-use mathlib.Core.Logic.{_≢_, ⊎-elim}
-use mathlib.Core.List.{List, [], _∷_, List·Memᴰ·head, List·Memᴰ·tail, List·Memᴰ·not-nil, List·Memᴰ·cases-cons}
-use Prim.Native.Nat.{ℕ, _-_, _≤_, _<_}
-use native.Mathlib.Omega.{arith}
-use lib.ListN.{length}
-use Rattle.numbers.specs.Index.{noRow}
-use Rattle.chains.specs.Lists.{_∈_}
-use Rattle.chains.specs.Chain.{firstOf}
-use Rattle.chains.specs.Walk.{rowsFrom, Ends, Holds, Walk}
+-- Then what follows from a rule along a chain, and that nothing but the used rows is read. Assumes nothing.
+use Rattle.numbers.specs.Library.{_≡_, refl, sym, ap, _∙_, _≢_, ⊎-elim, List, [], _∷_, List·Memᴰ·head, List·Memᴰ·tail, List·Memᴰ·not-nil, List·Memᴰ·cases-cons}
+use Rattle.numbers.specs.Library.{ℕ, _-_, _≤_, _<_, arith, length}
+use Rattle.numbers.specs.Prelude.{noRow}
+use Rattle.chains.specs.Prelude.{_∈_, firstOf, rowsFrom, Ends, Holds, Walk}
 use Rattle.chains.proofs.Ends.{ends-rows, ends-length}
 
 module _ {σ : Type 0} (nx : ℕ → ℕ) (ok : σ → ℕ → Type 0) (next : σ → ℕ → σ) (fin : σ → Type 0) (n : ℕ) where
@@ -94,3 +88,26 @@ module _ {σ : Type 0} {nx : ℕ → ℕ} {right : σ → ℕ → Type 0} {over 
     ends = w .ends;
     holds = holds-view right over good right′ over good (λ s. s) (λ s r. refl) (λ s g. g) s (rowsFrom nx used at) f (w .holds);
   }
+
+-- ---- another table, that says the same of every used row
+
+module _ (nx nx′ : ℕ → ℕ) (n : ℕ) (links : (r : ℕ) → r < n → nx′ r ≡ nx r) where
+  ends-alike : (rows : List ℕ) → Ends nx n rows → Ends nx′ n rows
+  ends-alike [] e = tt
+  ends-alike (r ∷ rs) e = (e .0, links r (e .0) ∙ e .1, ends-alike rs (e .2))
+
+  -- a chain that ends meets the same rows
+  pub rows-alike : n ≤ noRow → (at : ℕ) → firstOf (rowsFrom nx n at) ≡ at → Ends nx n (rowsFrom nx n at) → rowsFrom nx′ n at ≡ rowsFrom nx n at
+  rows-alike b at f e =
+      ap (rowsFrom nx′ n) (sym f) ∙ ends-rows nx′ n b n (rowsFrom nx n at) (ends-length nx n b (rowsFrom nx n at) e) (ends-alike (rowsFrom nx n at) e)
+
+  module _ {σ : Type 0} (right right′ : σ → ℕ → Type 0) (over over′ : σ → ℕ → σ) (good : σ → Type 0)
+      (rights : (s : σ) (r : ℕ) → r < n → right s r → right′ s r) (overs : (s : σ) (r : ℕ) → r < n → over′ s r ≡ over s r) where
+    holds-alike : (s : σ) (rows : List ℕ) → Ends nx n rows → Holds right over good s rows → Holds right′ over′ good s rows
+    holds-alike s [] e h = h
+    holds-alike s (r ∷ rs) e h = (rights s r (e .0) (h .0), rw (overs s r (e .0)) (holds-alike (over s r) rs (e .2) (h .1)))
+
+    pub walk-alike : n ≤ noRow → (at : ℕ) (s : σ) → Walk nx right over good n at s → Walk nx′ right′ over′ good n at s
+    walk-alike b at s w =
+        let e : rowsFrom nx′ n at ≡ rowsFrom nx n at = rows-alike b at (w .starts) (w .ends) in
+        record { starts = rw e (w .starts); ends = rw e (ends-alike (rowsFrom nx n at) (w .ends)); holds = rw e (holds-alike s (rowsFrom nx n at) (w .ends) (w .holds)) }

@@ -1,9 +1,7 @@
 -- How the elements of a list lie in a table along a chain: each has a row, and what stands in that row names the row before and the row after.
 -- One definition for the shelf chain, a shelf's items, a shelf's free list and the two chains of freed rows. Assumes nothing.
-use Prim.Native.Nat.{ℕ}
-use mathlib.Core.Path.{_≡_}
-use mathlib.Core.List.{List, [], _∷_}
-use Rattle.numbers.specs.Index.{noRow}
+use Rattle.numbers.specs.Library.{ℕ, _≡_, List, [], _∷_}
+use Rattle.numbers.specs.Prelude.{noRow}
 
 -- the row of an element, and what that row says of it between the row before and the row after
 pub record Kind (E C : Type 0) : Type 0 where

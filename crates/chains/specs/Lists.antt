@@ -1,6 +1,5 @@
 -- Lists of rows and of what lies in them: membership, distinctness, a place in a list. Assumes nothing.
-use Prim.Native.Nat.{ℕ}
-use mathlib.Core.List.{List, [], _∷_, _++_, List·Memᴰ}
+use Rattle.numbers.specs.Library.{ℕ, List, [], _∷_, _++_, List·Memᴰ}
 
 abbrev pub _∈_ : ℕ → List ℕ → Type 0
 r ∈ rows = List·Memᴰ r rows
@@ -42,6 +41,6 @@ pub record Focus (A : Type 0) : Type 0 where
   pub after : List A
 
 -- the list again: what stands before goes back in front, one by one
-abbrev pub back-onto : {A : Type 0} → List A → List A → List A
-back-onto [] ys = ys
-back-onto (x ∷ xs) ys = back-onto xs (x ∷ ys)
+abbrev pub backOnto : {A : Type 0} → List A → List A → List A
+backOnto [] ys = ys
+backOnto (x ∷ xs) ys = backOnto xs (x ∷ ys)

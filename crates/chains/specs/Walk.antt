@@ -1,11 +1,7 @@
 -- Walks along links that nobody has checked yet: the rows that are met, and what it is for them to be a chain along which a rule holds.
 -- Assumes nothing.
-use Prim.Native.Nat.{ℕ, zero, suc, _<_}
-use mathlib.Core.Path.{_≡_}
-use mathlib.Core.List.{List, [], _∷_}
-use lib.Dec.{eqb}
-use Rattle.numbers.specs.Pick.{pick}
-use Rattle.numbers.specs.Index.{noRow}
+use Rattle.numbers.specs.Library.{ℕ, zero, suc, _<_, _≡_, List, [], _∷_, eqb}
+use Rattle.numbers.specs.Prelude.{pick, noRow}
 use Rattle.chains.specs.Chain.{firstOf}
 
 -- the rows that are met from `at` on, at most `steps` of them

@@ -1,17 +1,8 @@
 -- The rule of any table of bands, rows of a last depth and a step: walked row by row it gives the first band that reaches a depth,
 -- or the last one. At our table that is the rule of the document.
-use Prim.Native.Nat.{ℕ, suc, _+_, _<_, _≤_}
-use mathlib.Core.Path.{_≡_, refl}
-use mathlib.Core.Bool.{Bool, true, false}
-use mathlib.Core.List.{List, [], _∷_}
-use native.Mathlib.Numerals.{add-one}
-use native.Mathlib.Omega.{arith}
-use lib.Dec.{leb}
-use lib.ListN.{getD, drop, length}
-use lib.Seq.{drop-cons}
-use borrow.Author.Tests.{le-leb, lt-leb}
-use Rattle.numbers.specs.Pick.{pick}
-use Rattle.numbers.specs.Bands.{depthBand, depthStep}
+use Rattle.numbers.specs.Library.{ℕ, suc, _+_, _<_, _≤_, _≡_, refl, Bool, true, false, List, [], _∷_, add-one, arith, leb, getD, drop, length, drop-cons}
+use Rattle.numbers.specs.Library.{le-leb, lt-leb}
+use Rattle.numbers.specs.Prelude.{pick, depthBand, depthStep}
 
 -- the first of the bands, numbered from i on, that reaches d
 pub bandFrom : List (List ℕ) → ℕ → ℕ → ℕ

@@ -1,11 +1,6 @@
 -- The step of a depth, and the depth of a shelf made for it. Assumes nothing.
-use Prim.Native.Nat.{ℕ, _<_, _≤_}
-use mathlib.Core.Path.{_≡_, refl}
-use mathlib.Core.Bool.{Bool, true, false}
-use native.Mathlib.Omega.{arith}
-use native.Mathlib.Decide.{decLt}
-use lib.Dec.{leb, lit<, lit≤}
-use borrow.Author.Tests.{le-leb, lt-leb}
+use Rattle.numbers.specs.Library.{ℕ, _<_, _≤_, _≡_, refl, Bool, true, false, arith, decLt, leb, lit<, le-leb, lt-leb}
+use lib.Dec.{lit≤}
 use Rattle.numbers.specs.Pick.{pick, pick-yes, pick-no}
 use Rattle.numbers.specs.Round.{roundUp, rounds-up}
 

@@ -1,6 +1,5 @@
 -- A test that says whether something holds, and what a branch on one tells. Assumes nothing.
-use mathlib.Core.Path.{_≡_, refl, sym}
-use mathlib.Core.Bool.{Bool, true, false, not, false≢true}
+use Rattle.numbers.specs.Library.{_≡_, refl, sym, Bool, true, false, not, false≢true}
 
 -- the test says whether A holds
 pub record Decides (test : Bool) (A : Type 0) : Type 0 where
@@ -14,6 +13,10 @@ never e = absurd (false≢true e)
 pub refuted : {A : Type 0} → (A → ⊥) → Decides false A
 refuted no′ = record { sound = never; complete = λ a. absurd (no′ a) }
 
+-- a test that comes out as another one does
+pub as-test : {A : Type 0} {test other : Bool} → test ≡ other → Decides other A → Decides test A
+as-test e d = rw e d
+
 -- where a branch found that the test failed, and where it found that it did not
 pub failed : {A : Type 0} {test : Bool} → Decides test A → test ≡ false → A → ⊥
 failed {test = true} d e a = never (sym e)
@@ -23,6 +26,6 @@ pub denied : {A : Type 0} {test : Bool} → Decides test A → not test ≡ true
 denied {test = true} d e a = never e
 denied {test = false} d e a = failed d refl a
 
-pub granted : {A : Type 0} {test : Bool} → Decides test A → not test ≡ false → A
-granted {test = true} d e = d .sound refl
-granted {test = false} d e = never (sym e)
+pub allowed : {A : Type 0} {test : Bool} → Decides test A → not test ≡ false → A
+allowed {test = true} d e = d .sound refl
+allowed {test = false} d e = never (sym e)

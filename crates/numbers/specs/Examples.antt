@@ -1,8 +1,5 @@
 -- The examples that document 01 marks to be proved: one table, one statement. Assumes nothing.
-use Prim.Native.Nat.{ℕ, _-_}
-use mathlib.Core.Path.{_≡_, refl}
-use mathlib.Core.List.{List, [], _∷_, map}
-use lib.Dec.{ltb}
+use Rattle.numbers.specs.Library.{ℕ, _-_, _≡_, refl, List, [], _∷_, map, ltb}
 use Rattle.numbers.specs.Pick.{pick}
 use Rattle.numbers.specs.Round.{roundUp}
 use Rattle.numbers.specs.Bands.{depthStep, shelfHeight}

@@ -1,7 +1,5 @@
 -- When a place is split, and when a shelf in use is a bad fit. Assumes nothing.
-use Prim.Native.Nat.{ℕ, _+_, _/_, min}
-use mathlib.Core.Bool.{Bool}
-use lib.Dec.{ltb}
+use Rattle.numbers.specs.Library.{ℕ, _+_, _/_, min, Bool, ltb}
 
 -- a place more than 8 larger than what is asked is split: a shelf by its depth, an item by its width
 abbrev pub largeEnoughToSplit : ℕ → ℕ → Bool

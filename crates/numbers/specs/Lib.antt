@@ -1,3 +1,4 @@
+pub mod Library
 pub mod Pick
 pub mod Decides
 pub mod Index
@@ -12,3 +13,4 @@ pub mod Limits
 pub mod Created
 pub mod Examples
 pub mod Placeable
+pub mod Prelude

@@ -1,6 +1,5 @@
 -- A choice by a test. Assumes nothing.
-use mathlib.Core.Path.{_≡_, refl}
-use mathlib.Core.Bool.{Bool, true, false}
+use Rattle.numbers.specs.Library.{_≡_, refl, Bool, true, false}
 
 -- the first where the test holds, else the second
 abbrev pub pick {ℓ} : {X : Type ℓ} → Bool → X → X → X

@@ -1,86 +1,70 @@
 -- What a request that is neither 4 nor 5 asks for. Assumes nothing.
-use Prim.Native.Nat.{ℕ, _%_, _≤_}
-use mathlib.Core.Path.{_≡_, refl}
-use mathlib.Core.Bool.{Bool, true, false, _&&_}
-use native.Mathlib.Omega.{arith}
-use lib.Dec.{leb, eqb}
-use lib.IntN.{ℤ}
-use borrow.Author.Tests.{leb-true}
-use Rattle.numbers.specs.declared.sides.Side.{Side}
+use Rattle.numbers.specs.Library.{ℕ, _%_, _≤_, _≡_, refl, Bool, true, false, _&&_, arith, leb, eqb, ℤ, leb-true}
+use Rattle.numbers.specs.declared.{sides.Side.Side, limits.Limits.Limits, request.Asked.Asked}
 use Rattle.numbers.specs.declared.sides.Side.the-variants.{Fits, Bad}
-use Rattle.numbers.specs.declared.request.Asked.{Asked}
 use Rattle.numbers.specs.declared.request.Request.the-variants.{Good, Refused}
 use Rattle.numbers.specs.Pick.{pick}
 use Rattle.numbers.specs.Tests.{both}
-use Rattle.numbers.specs.Axes.{along, deep}
+use Rattle.numbers.specs.Axes.{firstAxis, secondAxis}
 use Rattle.numbers.specs.Round.{roundUp, RoundsUp, rounds-up}
 use Rattle.numbers.specs.Bands.{shelfHeight, height-enough, height-within}
 use Rattle.numbers.specs.Sides.{sideOf, side-range}
-use Rattle.numbers.specs.Request.{askedWithin, aligned, judged, asked}
+use Rattle.numbers.specs.Limits.{alongStep, WithinLimits}
+use Rattle.numbers.specs.Request.{askedWithin, askedOf, judged, asked}
 
--- the width is a positive multiple of the along alignment and fits a shelf; the depth is positive and fits the atlas
-pub record Placeable (step shelfWidth atlasDepth : ℕ) (a : Asked) : Type 0 where
+-- Its width is aligned and no wider than a shelf; its depth is the aligned depth rounded up, and no deeper than the atlas.
+pub record Placeable (l : Limits) (a : Asked) : Type 0 where
   pub some-width : 1 ≤ a .width
-  pub most-width : a .width ≤ shelfWidth
-  pub multiple : a .width % step ≡ 0
+  pub aligned : a .width % alongStep l ≡ 0
+  pub no-wider : a .width ≤ l .«shelf_width»
   pub some-depth : 1 ≤ a .depth
-  pub most-depth : a .depth ≤ atlasDepth
+  pub no-deeper : a .depth ≤ l .height
+  pub rounded : a .depth ≡ shelfHeight (l .height) (a .aligned)
 
-module _ (step shelfWidth atlasDepth width depth : ℕ) (a : Asked) where
-  within-placeable :
-      1 ≤ width → width % step ≡ 0 → 1 ≤ depth
-      → askedWithin shelfWidth atlasDepth width depth ≡ Good a
-      → Placeable step shelfWidth atlasDepth a
+module _ (l : Limits) (a : Asked) where
+  within-placeable : (width depth : ℕ) → 1 ≤ width → width % alongStep l ≡ 0 → 1 ≤ depth → askedWithin l width depth ≡ Good a → Placeable l a
   unfolding askedWithin
-  within-placeable w m d e = go (leb width shelfWidth && leb depth atlasDepth) refl e where
+  within-placeable width depth w m d e = go (leb width (l .«shelf_width») && leb depth (l .height)) refl e where
     go :
-        (b : Bool) → (leb width shelfWidth && leb depth atlasDepth) ≡ b
-        → pick b (Good (record { width = width; depth = shelfHeight atlasDepth depth })) (Refused 5) ≡ Good a
-        → Placeable step shelfWidth atlasDepth a
+        (b : Bool) → (leb width (l .«shelf_width») && leb depth (l .height)) ≡ b
+        → pick b (Good (record { width = width; depth = shelfHeight (l .height) depth; aligned = depth })) (Refused 5) ≡ Good a
+        → Placeable l a
     go true t e =
-        let is : _≡_ {A = Asked} (record { width = width; depth = shelfHeight atlasDepth depth }) a = cc in
-        let fit = both (leb width shelfWidth) (leb depth atlasDepth) t in
+        let is : _≡_ {A = Asked} (record { width = width; depth = shelfHeight (l .height) depth; aligned = depth }) a = cc in
+        let fit = both (leb width (l .«shelf_width»)) (leb depth (l .height)) t in
         rw (← is) (record {
           some-width = w;
-          most-width = leb-true width shelfWidth (fit .0);
-          multiple = m;
-          some-depth = omega (arith, height-enough atlasDepth depth);
-          most-depth = height-within atlasDepth depth (leb-true depth atlasDepth (fit .1));
+          aligned = m;
+          no-wider = leb-true width (l .«shelf_width») (fit .0);
+          some-depth = omega (arith, height-enough (l .height) depth);
+          no-deeper = height-within (l .height) depth (leb-true depth (l .height) (fit .1));
+          rounded = refl;
         })
     go false t e = absurd (let z : _≡_ {A = ℕ} 0 1 = cc in omega arith)
 
-module _ (alignWidth alignHeight vertical shelfWidth atlasDepth : ℕ) (someWidth : 1 ≤ alignWidth) (someHeight : 1 ≤ alignHeight) (a : Asked) where
-  aligned-placeable :
-      (w h : ℕ) → 1 ≤ w → 1 ≤ h
-      → aligned alignWidth alignHeight vertical shelfWidth atlasDepth w h ≡ Good a
-      → Placeable (along vertical alignWidth alignHeight) shelfWidth atlasDepth a
-  unfolding aligned along deep
-  aligned-placeable w h m n e = go (eqb vertical 1) e where
-    x : RoundsUp alignWidth w (roundUp alignWidth w)
-    x = rounds-up alignWidth w someWidth
+  module _ (limits : WithinLimits l) where
+    sides-placeable : (w h : ℕ) → 1 ≤ w → 1 ≤ h → askedOf l w h ≡ Good a → Placeable l a
+    unfolding askedOf alongStep firstAxis secondAxis
+    sides-placeable w h m n e = go (eqb (l .vertical) 1) refl e where
+      x : RoundsUp (l .«align_width») w (roundUp (l .«align_width») w)
+      x = rounds-up (l .«align_width») w (limits .options .align-width-least)
 
-    y : RoundsUp alignHeight h (roundUp alignHeight h)
-    y = rounds-up alignHeight h someHeight
+      y : RoundsUp (l .«align_height») h (roundUp (l .«align_height») h)
+      y = rounds-up (l .«align_height») h (limits .options .align-height-least)
 
-    go :
-        (b : Bool)
-        → askedWithin shelfWidth atlasDepth
-        (pick b (roundUp alignHeight h) (roundUp alignWidth w))
-        (pick b (roundUp alignWidth w) (roundUp alignHeight h))
-        ≡ Good a
-        → Placeable (pick b alignHeight alignWidth) shelfWidth atlasDepth a
-    go true e = within-placeable _ _ _ _ _ a (omega (arith, y .enough)) (y .multiple) (omega (arith, x .enough)) e
-    go false e = within-placeable _ _ _ _ _ a (omega (arith, x .enough)) (x .multiple) (omega (arith, y .enough)) e
+      go :
+          (b : Bool) → eqb (l .vertical) 1 ≡ b
+          → askedWithin l (pick b (roundUp (l .«align_height») h) (roundUp (l .«align_width») w))
+          (pick b (roundUp (l .«align_width») w) (roundUp (l .«align_height») h))
+          ≡ Good a
+          → Placeable l a
+      go true v e = within-placeable _ _ (omega (arith, y .enough)) (rw v (y .multiple)) (omega (arith, x .enough)) e
+      go false v e = within-placeable _ _ (omega (arith, x .enough)) (rw v (x .multiple)) (omega (arith, y .enough)) e
 
-  pub asked-placeable :
-      (w h : ℤ) → asked alignWidth alignHeight vertical shelfWidth atlasDepth w h ≡ Good a
-      → Placeable (along vertical alignWidth alignHeight) shelfWidth atlasDepth a
-  unfolding asked judged
-  asked-placeable w h e = go (sideOf w) (sideOf h) refl refl e where
-    go :
-        (s t : Side) → sideOf w ≡ s → sideOf h ≡ t
-        → judged alignWidth alignHeight vertical shelfWidth atlasDepth s t ≡ Good a
-        → Placeable (along vertical alignWidth alignHeight) shelfWidth atlasDepth a
-    go (Fits m) (Fits n) p q e = aligned-placeable m n (side-range w m p .0) (side-range h n q .0) e
-    go (Fits m) Bad p q e = absurd (let z : _≡_ {A = ℕ} 0 1 = cc in omega arith)
-    go Bad t p q e = absurd (let z : _≡_ {A = ℕ} 0 1 = cc in omega arith)
+    pub asked-placeable : (w h : ℤ) → asked l w h ≡ Good a → Placeable l a
+    unfolding asked judged
+    asked-placeable w h e = go (sideOf w) (sideOf h) refl refl e where
+      go : (s t : Side) → sideOf w ≡ s → sideOf h ≡ t → judged l s t ≡ Good a → Placeable l a
+      go (Fits m) (Fits n) p q e = sides-placeable m n (side-range w m p .0) (side-range h n q .0) e
+      go (Fits m) Bad p q e = absurd (let z : _≡_ {A = ℕ} 0 1 = cc in omega arith)
+      go Bad t p q e = absurd (let z : _≡_ {A = ℕ} 0 1 = cc in omega arith)

@@ -1,55 +1,49 @@
 -- A request as an allocator takes it up: its sides aligned, judged and rounded. Assumes nothing.
-use Prim.Native.Nat.{ℕ, _<_, _≤_}
-use mathlib.Core.Path.{_≡_, refl}
-use mathlib.Core.Bool.{_&&_, and-false}
-use lib.Dec.{leb}
-use borrow.Author.Tests.{le-leb, lt-leb}
-use lib.IntN.{ℤ}
-use Rattle.numbers.specs.declared.sides.Side.{Side}
+use Rattle.numbers.specs.Library.{ℕ, _<_, _≤_, _≡_, refl, _&&_, and-false, leb, le-leb, lt-leb, ℤ}
+use Rattle.numbers.specs.declared.{sides.Side.Side, limits.Limits.Limits, request.Request.Request}
 use Rattle.numbers.specs.declared.sides.Side.the-variants.{Fits, Bad}
-use Rattle.numbers.specs.declared.request.Request.{Request}
 use Rattle.numbers.specs.declared.request.Request.the-variants.{Good, Refused}
 use Rattle.numbers.specs.Pick.{pick}
-use Rattle.numbers.specs.Axes.{along, deep}
+use Rattle.numbers.specs.Axes.{firstAxis, secondAxis}
 use Rattle.numbers.specs.Round.{roundUp}
 use Rattle.numbers.specs.Bands.{shelfHeight}
 use Rattle.numbers.specs.Sides.{sideOf}
 
--- answer 5 where the aligned width or depth passes the shelf width or the atlas; else the depth is rounded up to its step
-unfoldable pub askedWithin : ℕ → ℕ → ℕ → ℕ → Request
-unfolding shelfHeight
-askedWithin shelfWidth atlasDepth width depth =
-    pick (leb width shelfWidth && leb depth atlasDepth)
-    (Good (record { width = width; depth = shelfHeight atlasDepth depth }))
-    (Refused 5)
+module _ (l : Limits) where
+  -- answer 5 where the aligned width or depth passes the shelf width or the atlas; else the depth is rounded up to its step
+  unfoldable pub askedWithin : ℕ → ℕ → Request
+  unfolding shelfHeight
+  askedWithin width depth =
+      pick (leb width (l .«shelf_width») && leb depth (l .height))
+      (Good (record { width = width; depth = shelfHeight (l .height) depth; aligned = depth }))
+      (Refused 5)
 
-module _ (shelfWidth atlasDepth width depth : ℕ) where
-  pub too-wide : shelfWidth < width → askedWithin shelfWidth atlasDepth width depth ≡ Refused 5
-  unfolding askedWithin
-  too-wide h = rw (lt-leb width shelfWidth h)
+  module _ (width depth : ℕ) where
+    pub too-wide : l .«shelf_width» < width → askedWithin width depth ≡ Refused 5
+    unfolding askedWithin
+    too-wide h = rw (lt-leb width (l .«shelf_width») h)
 
-  pub too-deep : atlasDepth < depth → askedWithin shelfWidth atlasDepth width depth ≡ Refused 5
-  unfolding askedWithin
-  too-deep h = rw (lt-leb depth atlasDepth h, and-false)
+    pub too-deep : l .height < depth → askedWithin width depth ≡ Refused 5
+    unfolding askedWithin
+    too-deep h = rw (lt-leb depth (l .height) h, and-false)
 
-  pub fitting :
-      width ≤ shelfWidth → depth ≤ atlasDepth
-      → askedWithin shelfWidth atlasDepth width depth ≡ Good (record { width = width; depth = shelfHeight atlasDepth depth })
-  unfolding askedWithin
-  fitting h k = rw (le-leb width shelfWidth h, le-leb depth atlasDepth k)
+    pub fitting : width ≤ l .«shelf_width» → depth ≤ l .height
+        → askedWithin width depth ≡ Good (record { width = width; depth = shelfHeight (l .height) depth; aligned = depth })
+    unfolding askedWithin
+    fitting h k = rw (le-leb width (l .«shelf_width») h, le-leb depth (l .height) k)
 
--- answer 4 is decided on the raw sides; then each side is rounded up to its own alignment
-module _ (alignWidth alignHeight vertical shelfWidth atlasDepth : ℕ) where
-  unfoldable pub aligned : ℕ → ℕ → Request
-  unfolding askedWithin roundUp along deep
-  aligned w h =
-      askedWithin shelfWidth atlasDepth
-      (along vertical (roundUp alignWidth w) (roundUp alignHeight h))
-      (deep vertical (roundUp alignWidth w) (roundUp alignHeight h))
+  -- each side is rounded up to its own alignment
+  unfoldable pub askedOf : ℕ → ℕ → Request
+  unfolding askedWithin roundUp firstAxis secondAxis
+  askedOf w h =
+      askedWithin
+      (firstAxis (l .vertical) (roundUp (l .«align_width») w) (roundUp (l .«align_height») h))
+      (secondAxis (l .vertical) (roundUp (l .«align_width») w) (roundUp (l .«align_height») h))
 
+  -- answer 4 is decided on the raw sides
   unfoldable pub judged : Side → Side → Request
-  unfolding aligned
-  judged (Fits w) (Fits h) = aligned w h
+  unfolding askedOf
+  judged (Fits w) (Fits h) = askedOf w h
   judged (Fits w) Bad = Refused 4
   judged Bad h = Refused 4
 
@@ -69,6 +63,6 @@ module _ (alignWidth alignHeight vertical shelfWidth atlasDepth : ℕ) where
     go (Fits a) = refl
     go Bad = refl
 
-  pub good-sides : (w h : ℤ) (a b : ℕ) → sideOf w ≡ Fits a → sideOf h ≡ Fits b → asked w h ≡ aligned a b
+  pub good-sides : (w h : ℤ) (a b : ℕ) → sideOf w ≡ Fits a → sideOf h ≡ Fits b → asked w h ≡ askedOf a b
   unfolding judged asked
   good-sides w h a b e f = rw (e, f)

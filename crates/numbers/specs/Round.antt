@@ -1,11 +1,7 @@
 -- A number rounded up to a multiple of a step, and the law of it for any step of at least 1. Assumes nothing.
-use Prim.Native.Nat.{ℕ, suc, _+_, _-_, _*_, _/_, _%_, _<_, _≤_}
-use mathlib.Core.Path.{_≡_}
-use native.Mathlib.Nat.{mod-lt, div-add-mod', mul-mod-left, suc-mul, div-lt-iff-lt-mul, mul-le-mul-right}
-use native.Mathlib.Decide.{ℕ-discrete, decLt}
-use native.Mathlib.Omega.{arith}
-use lib.Dec.{eqb}
-use borrow.Author.Tests.{eq-eqb, ne-eqb}
+use Rattle.numbers.specs.Library.{ℕ, suc, _+_, _-_, _*_, _/_, _%_, _<_, _≤_, _≡_, mod-lt, div-add-mod', suc-mul, mul-le-mul-right, ℕ-discrete, decLt}
+use Rattle.numbers.specs.Library.{arith, eqb, eq-eqb, ne-eqb}
+use native.Mathlib.Nat.{mul-mod-left, div-lt-iff-lt-mul}
 use Rattle.numbers.specs.Pick.{pick, pick-yes, pick-no, pick-same}
 
 -- n itself where it is a multiple of the step, else n with what its remainder lacks of the step

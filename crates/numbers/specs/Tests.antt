@@ -1,6 +1,6 @@
 -- Tests one after another, as code takes them: it leaves at the first that fails. Assumes nothing.
-use mathlib.Core.Path.{_≡_, refl}
-use mathlib.Core.Bool.{Bool, true, false, not, _&&_, false≢true, true≢false}
+use Rattle.numbers.specs.Library.{_≡_, refl, Bool, true, false, not, _&&_, false≢true}
+use mathlib.Core.Bool.{true≢false}
 
 -- both of two tests that hold together
 pub both : (a b : Bool) → (a && b) ≡ true → (a ≡ true) × (b ≡ true)

@@ -1,23 +1,24 @@
-// The two axes: along the shelves, and deep across them. With vertical shelves x and y change places.
+// The two axes: along the shelves, and deep across them. With vertical shelves x and y change places on the way in and out, by the same
+// two functions.
 ghost use mathlib.Core.Path.{_≡_};
-ghost use Rattle.numbers.specs.Axes as axes;
+ghost use Rattle.numbers.specs.Axes.{firstAxis, secondAxis};
 
-// Of a number for x and one for y, the one along the shelves.
-pub fn along(vertical: u16, x: u32, y: u32) -> u32
-    ensures { λ r. ⌜ r ≡ axes.along vertical x y ⌝ }
+// Of x and y the number along the shelves; of along and deep the number for x.
+pub fn first_axis(vertical: u16, p: u32, q: u32) -> u32
+    ensures { λ r. ⌜ r ≡ firstAxis vertical p q ⌝ }
 {
     if vertical == 1 {
-        return y;
+        return q;
     }
-    x
+    p
 }
 
-// And the one across them.
-pub fn deep(vertical: u16, x: u32, y: u32) -> u32
-    ensures { λ r. ⌜ r ≡ axes.deep vertical x y ⌝ }
+// Of x and y the number across the shelves; of along and deep the number for y.
+pub fn second_axis(vertical: u16, p: u32, q: u32) -> u32
+    ensures { λ r. ⌜ r ≡ secondAxis vertical p q ⌝ }
 {
     if vertical == 1 {
-        return x;
+        return p;
     }
-    y
+    q
 }

@@ -6,7 +6,8 @@ const SHELF_SPLIT_THRESHOLD: u32 = 8;
 
 const ITEM_SPLIT_THRESHOLD: u32 = 8;
 
-const MAX_DEPTH: u32 = 65535;
+// The greatest depth that 16 bits hold.
+const MOST_DEPTH: u16 = 65535;
 
 // An empty shelf is split for a request of a depth.
 pub fn splits_shelf(depth: u16, shelf_depth: u16) -> bool
@@ -27,8 +28,8 @@ pub fn good_fit_to(depth: u16) -> u16
     ensures { λ r. ⌜ r ≡ goodFitTo depth ⌝ }
 {
     let half_more = depth as u32 + depth as u32 / 2;
-    if half_more <= MAX_DEPTH {
+    if half_more <= MOST_DEPTH as u32 {
         return half_more as u16;
     }
-    65535
+    MOST_DEPTH
 }

@@ -3,11 +3,17 @@ ghost use mathlib.Core.Path.{_≡_};
 ghost use lib.Dec.{eqb};
 ghost use Rattle.numbers.specs.Index.{noRow, noShelf, noItem};
 
+// No row, in a walk that holds rows as plain numbers.
+pub const NO_ROW: u16 = 65535;
+
+// The most rows that a table has: so none has the index that names no row.
+pub const MOST_ROWS: u16 = NO_ROW;
+
 // A row of the shelf table, or none.
 pub struct ShelfIndex(pub u16);
 
 impl ShelfIndex {
-    pub const NONE: ShelfIndex = ShelfIndex(65535);
+    pub const NONE: ShelfIndex = ShelfIndex(NO_ROW);
 
     pub fn new(row: u16) -> ShelfIndex
         ensures { λ r. ⌜ r ≡ record { 0 = row } ⌝ }
@@ -32,7 +38,7 @@ impl ShelfIndex {
 pub struct ItemIndex(pub u16);
 
 impl ItemIndex {
-    pub const NONE: ItemIndex = ItemIndex(65535);
+    pub const NONE: ItemIndex = ItemIndex(NO_ROW);
 
     pub fn new(row: u16) -> ItemIndex
         ensures { λ r. ⌜ r ≡ record { 0 = row } ⌝ }

@@ -4,6 +4,7 @@ pub mod bands;
 pub mod fit;
 pub mod index;
 pub mod limits;
+pub mod refusal;
 pub mod request;
 pub mod round;
 pub mod sides;

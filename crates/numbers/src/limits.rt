@@ -1,49 +1,60 @@
 // Create's numbers, and the limits that every header keeps.
 ghost use mathlib.Core.Path.{_≡_};
-ghost use Rattle.numbers.specs.Limits.{sizesGood, optionsGood, shelfWidthGood, withinLimits};
-ghost use Rattle.numbers.specs.Limits.{shelfWidthOf, columnsOf, limitsFor, judgedLimits, createNumbers};
-use crate::axes::along;
-use crate::axes::deep;
+ghost use Rattle.numbers.specs.Decides.{Decides};
+ghost use Rattle.numbers.specs.Limits.{sizesGood, optionsGood, shelfWidthGood, alongStep, WithinLimits, shelfWidthOf, limitsFor, judgedLimits};
+ghost use Rattle.numbers.specs.Limits.{createNumbers};
+ghost use Rattle.numbers.specs.Limits as limits;
+use crate::axes::first_axis;
+use crate::axes::second_axis;
+use crate::refusal;
+use crate::sides::MOST_SIDE;
 use crate::sides::flag_of;
 use crate::sides::natural_of;
 use crate::sides::one_to;
 
-const MAX_AREA: u32 = 2147483647;
+// The greatest H: the Rust adds 8 to a 16-bit depth, and never picks a shelf of depth 65535.
+const MOST_HEIGHT: u32 = 65527;
 
-// The first six numbers of a header.
+// The greatest W x H.
+const MOST_AREA: u32 = 2147483647;
+
+// The first six numbers of a header: what create fixes and no call changes.
 pub struct Limits {
+    // W, the size along the shelves, and H, the size across them.
     pub width: u16,
     pub height: u16,
     pub align_width: u16,
     pub align_height: u16,
     pub vertical: u16,
+    // S.
     pub shelf_width: u16,
 }
 
-pub enum Made {
-    Good(Limits),
+// Create's numbers: within the limits, or answer 1 or 2.
+pub enum Limited {
+    Within(Limits),
     Refused(u16),
 }
 
 pub fn sizes_good(width: u32, height: u32) -> bool
     ensures { λ r. ⌜ r ≡ sizesGood width height ⌝ }
 {
-    if !one_to(65535, width) {
+    if !one_to(MOST_SIDE, width) {
         return false;
     }
-    if !one_to(65527, height) {
+    if !one_to(MOST_HEIGHT, height) {
         return false;
     }
-    width * height <= MAX_AREA
+    width * height <= MOST_AREA
 }
 
 pub fn options_good(align_width: u32, align_height: u32, vertical: u16) -> bool
     ensures { λ r. ⌜ r ≡ optionsGood «align_width» «align_height» vertical ⌝ }
 {
-    if !one_to(65535, align_width) {
+    if !one_to(MOST_SIDE, align_width) {
         return false;
     }
-    if !one_to(65535, align_height) {
+    if !one_to(MOST_SIDE, align_height) {
         return false;
     }
     vertical <= 1
@@ -64,13 +75,20 @@ pub fn shelf_width_of(width: u32, columns: u32, step: u32) -> u32
 }
 
 // C; 0 where S is.
-pub fn columns(width: u16, shelf_width: u16) -> u16
-    ensures { λ r. ⌜ r ≡ columnsOf width «shelf_width» ⌝ }
+pub fn columns(l: Limits) -> u16
+    ensures { λ r. ⌜ r ≡ limits.columns l ⌝ }
 {
-    if shelf_width == 0 {
+    if l.shelf_width == 0 {
         return 0;
     }
-    width / shelf_width
+    l.width / l.shelf_width
+}
+
+// The alignment along the shelves.
+pub fn along_step(l: Limits) -> u32
+    ensures { λ r. ⌜ r ≡ alongStep l ⌝ }
+{
+    first_axis(l.vertical, l.align_width as u32, l.align_height as u32)
 }
 
 // S lies from 1 to W and is a multiple of the step.
@@ -87,7 +105,7 @@ pub fn shelf_width_good(width: u32, shelf_width: u32, step: u32) -> bool
 }
 
 pub fn within_limits(l: Limits) -> bool
-    ensures { λ r. ⌜ r ≡ withinLimits l ⌝ }
+    ensures { λ r. ⌜ Decides r (WithinLimits l) ⌝ }
 {
     if !sizes_good(l.width as u32, l.height as u32) {
         return false;
@@ -95,8 +113,7 @@ pub fn within_limits(l: Limits) -> bool
     if !options_good(l.align_width as u32, l.align_height as u32, l.vertical) {
         return false;
     }
-    let step = along(l.vertical, l.align_width as u32, l.align_height as u32);
-    shelf_width_good(l.width as u32, l.shelf_width as u32, step)
+    shelf_width_good(l.width as u32, l.shelf_width as u32, along_step(l))
 }
 
 // Answer 1, then answer 2, on numbers that are no longer signed.
@@ -107,25 +124,29 @@ pub fn judge_limits(
     align_height: u32,
     vertical: u16,
     columns: u32,
-) -> Made
+) -> Limited
     ensures { λ r. ⌜ r ≡ judgedLimits columns (limitsFor w h «align_width» «align_height» vertical columns) ⌝ }
 {
-    let width = along(vertical, w, h);
-    let height = deep(vertical, w, h);
+    let width = first_axis(vertical, w, h);
+    let height = second_axis(vertical, w, h);
     if !sizes_good(width, height) {
-        return Made::Refused(1);
+        return Limited::Refused(refusal::SIZE);
     }
     if !options_good(align_width, align_height, vertical) {
-        return Made::Refused(2);
+        return Limited::Refused(refusal::OPTIONS);
     }
     if columns < 1 {
-        return Made::Refused(2);
+        return Limited::Refused(refusal::OPTIONS);
     }
-    let shelf_width = shelf_width_of(width, columns, along(vertical, align_width, align_height));
+    let shelf_width = shelf_width_of(
+        width,
+        columns,
+        first_axis(vertical, align_width, align_height),
+    );
     if shelf_width < 1 {
-        return Made::Refused(2);
+        return Limited::Refused(refusal::OPTIONS);
     }
-    Made::Good(Limits {
+    Limited::Within(Limits {
         width: width as u16,
         height: height as u16,
         align_width: align_width as u16,
@@ -142,7 +163,7 @@ pub fn create_numbers(
     align_height: i32,
     vertical: i32,
     columns: i32,
-) -> Made
+) -> Limited
     ensures { λ r. ⌜ r ≡ createNumbers w h «align_width» «align_height» vertical columns ⌝ }
 {
     judge_limits(

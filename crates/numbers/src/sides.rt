@@ -2,6 +2,9 @@
 ghost use mathlib.Core.Path.{_≡_};
 ghost use Rattle.numbers.specs.Sides.{oneTo, natural, flagOf, sideOf};
 
+// The greatest side of an atlas or of a request, and the greatest alignment.
+pub const MOST_SIDE: u32 = 65535;
+
 pub enum Side {
     Fits(u16),
     Bad,
@@ -45,7 +48,7 @@ pub fn side_of(raw: i32) -> Side
     ensures { λ r. ⌜ r ≡ sideOf raw ⌝ }
 {
     let n = natural_of(raw);
-    if one_to(65535, n) {
+    if one_to(MOST_SIDE, n) {
         return Side::Fits(n as u16);
     }
     Side::Bad

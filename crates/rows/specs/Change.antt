@@ -1,15 +1,7 @@
 -- A row of a table changed where it stands, and reads after stores in the form that `simp` works out.
 -- The width is a variable throughout. Assumes nothing.
-use mathlib.Core.Path.{_≡_, refl, ap, _∙_}
-use mathlib.Core.Logic.{_≢_}
-use mathlib.Core.Bool.{true}
-use mathlib.Core.List.{List}
-use Prim.Native.Nat.{ℕ, _≤_, _<_}
-use native.Mathlib.Decide.{decLt, ℕ-discrete}
-use native.Mathlib.Omega.{arith}
-use lib.Dec.{ltb}
-use lib.ListN.{length}
-use borrow.Author.Tests.{ltb-true}
+use Rattle.numbers.specs.Library.{_≡_, refl, ap, _∙_, _≢_, true, List, ℕ, _≤_, _<_, decLt, ℕ-discrete, arith, ltb, length, ltb-true}
+use Rattle.numbers.specs.Prelude.{noRow}
 use Rattle.rows.specs.Row.{Shape, rows, rest, get, put, length-put, rows-put, rest-put, get-put-same, get-put-other, put-out, put-none}
 
 module _ {A : Type 0} (s : Shape A) where
@@ -39,7 +31,7 @@ module _ {A : Type 0} (s : Shape A) where
   pub change-out : (l : List ℕ) (i : ℕ) (f : A → A) → rows s l ≤ i → change l i f ≡ l
   change-out l i f h = rw change-is (put-out s l i _ h)
 
-  pub change-none : (l : List ℕ) (i : ℕ) (f : A → A) → i ≡ 65535 → l ≡ change l i f
+  pub change-none : (l : List ℕ) (i : ℕ) (f : A → A) → i ≡ noRow → l ≡ change l i f
   change-none l i f e = rw change-is (put-none s l i _ e)
 
   -- that a row is there, as a test: `simp` works it out through the changes before

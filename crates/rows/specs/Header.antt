@@ -1,25 +1,24 @@
 -- The header: eleven numbers in document 01's order. Assumes nothing.
-use mathlib.Core.List.{List, [], _∷_}
-use Prim.Native.Nat.{ℕ}
-use lib.ListN.{getD, set}
-use Rattle.numbers.specs.declared.index.ItemIndex.{ItemIndex}
-use Rattle.numbers.specs.declared.index.ShelfIndex.{ShelfIndex}
+use Rattle.numbers.specs.Library.{List, [], _∷_, ℕ, getD, set, drop}
+use Rattle.numbers.specs.declared.{index.ItemIndex.ItemIndex, index.ShelfIndex.ShelfIndex, limits.Limits.Limits}
 use Rattle.rows.specs.declared.header.Header.{Header}
 
 -- a header's eleven numbers, and the header of eleven numbers
 abbrev pub numbersOf : Header → List ℕ
 numbersOf h =
-    h .width ∷ h .height ∷ h .«align_width» ∷ h .«align_height» ∷ h .vertical ∷ h .«shelf_width» ∷ h .«used_shelves» ∷ h .«used_items»
-    ∷ h .«free_items» .0 ∷ h .«free_shelves» .0 ∷ h .occupied ∷ []
+    h .limits .width ∷ h .limits .height ∷ h .limits .«align_width» ∷ h .limits .«align_height» ∷ h .limits .vertical ∷ h .limits .«shelf_width»
+    ∷ h .«used_shelves» ∷ h .«used_items» ∷ h .«free_items» .0 ∷ h .«free_shelves» .0 ∷ h .occupied ∷ []
 
 abbrev pub headerOf : List ℕ → Header
 headerOf r = record {
-  width = getD r 0 0;
-  height = getD r 1 0;
-  «align_width» = getD r 2 0;
-  «align_height» = getD r 3 0;
-  vertical = getD r 4 0;
-  «shelf_width» = getD r 5 0;
+  limits = record {
+    width = getD r 0 0;
+    height = getD r 1 0;
+    «align_width» = getD r 2 0;
+    «align_height» = getD r 3 0;
+    vertical = getD r 4 0;
+    «shelf_width» = getD r 5 0;
+  };
   «used_shelves» = getD r 6 0;
   «used_items» = getD r 7 0;
   «free_items» = record { 0 = getD r 8 0 };
@@ -31,27 +30,14 @@ headerOf r = record {
 abbrev pub zeroHeader : Header
 zeroHeader = headerOf []
 
--- a header with one of its numbers replaced
+-- a header with other limits
+unfoldable pub withLimits : Limits → Header → Header
+withLimits l h =
+    headerOf (l .width ∷ l .height ∷ l .«align_width» ∷ l .«align_height» ∷ l .vertical ∷ l .«shelf_width» ∷ drop 6 (numbersOf h))
+
+-- a header with one of its other numbers replaced
 abbrev replaced : ℕ → ℕ → Header → Header
 replaced place n h = headerOf (set (numbersOf h) place n)
-
-unfoldable pub withAtlasWidth : ℕ → Header → Header
-withAtlasWidth width h = replaced 0 width h
-
-unfoldable pub withAtlasHeight : ℕ → Header → Header
-withAtlasHeight height h = replaced 1 height h
-
-unfoldable pub withAlignWidth : ℕ → Header → Header
-withAlignWidth align h = replaced 2 align h
-
-unfoldable pub withAlignHeight : ℕ → Header → Header
-withAlignHeight align h = replaced 3 align h
-
-unfoldable pub withVertical : ℕ → Header → Header
-withVertical flag h = replaced 4 flag h
-
-unfoldable pub withShelfWidth : ℕ → Header → Header
-withShelfWidth width h = replaced 5 width h
 
 unfoldable pub withUsedShelves : ℕ → Header → Header
 withUsedShelves n h = replaced 6 n h

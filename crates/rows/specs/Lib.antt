@@ -1,10 +1,9 @@
 pub mod Part
 pub mod Row
 pub mod Change
+pub mod Past
 pub mod Header
 pub mod Shelf
 pub mod Item
 pub mod Views
-pub mod Pool
-pub mod PoolLaws
-pub mod Unread
+pub mod Prelude

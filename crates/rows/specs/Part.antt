@@ -1,11 +1,9 @@
 -- Parts of a list of numbers: the k numbers from some place on, taken out or replaced, and a list written out by its elements.
 -- Assumes nothing.
-use mathlib.Core.Path.{_≡_, sym, ap, _∙_, subst}
-use mathlib.Core.List.{List, [], _∷_, _++_, append-nil}
-use Prim.Native.Nat.{ℕ, zero, suc, _+_, _-_, _≤_, _<_}
-use native.Mathlib.Omega.{arith}
-use lib.ListN.{length, getD, take, drop, length-append, length-drop, drop-of-length-le, List·getD-append}
-use lib.Seq.{length-take-le, getD-append-add, getD-take, getD-drop, drop-cons, sets, sets-eq}
+use Rattle.numbers.specs.Library.{_≡_, sym, ap, _∙_, subst, List, [], _∷_, _++_, append-nil, ℕ, zero, suc, _+_, _-_, _≤_, _<_, arith, length, getD, take, drop}
+use Rattle.numbers.specs.Library.{length-append, length-drop, length-take-le, drop-cons}
+use lib.ListN.{drop-of-length-le, List·getD-append}
+use lib.Seq.{getD-append-add, getD-take, getD-drop, sets, sets-eq}
 
 -- the k numbers from b on, and the list with them replaced
 unfoldable pub cut : ℕ → List ℕ → ℕ → List ℕ

@@ -1,17 +1,11 @@
 -- A flat table of numbers as rows of one width: what a row is, what storing one does, and the laws of both.
 -- The width is a variable throughout. Assumes nothing.
-use mathlib.Core.Path.{_≡_, refl, sym, ap, _∙_, subst}
-use mathlib.Core.Logic.{_≢_, _⊎_, inl, inr, ⊎-elim}
-use mathlib.Core.List.{List, [], _++_, append-assoc}
-use Prim.Native.Nat.{ℕ, suc, _+_, _-_, _*_, _/_, _%_, min, _≤_, _<_}
-use native.Mathlib.Nat.{suc-mul, mul-le-mul-right, add-sub-cancel-left, div-add-mod', mod-lt, le-div-iff-mul-le, min-le-left, min-le-right, le-min, div-mul-le-self}
-use native.Mathlib.Decide.{decLt, ℕ-discrete}
-use native.Mathlib.Omega.{arith}
-use lib.Dec.{ltb}
-use lib.ListN.{length, getD, take, drop, length-take, length-drop}
+use Rattle.numbers.specs.Library.{_≡_, refl, sym, ap, _∙_, subst, _≢_, _⊎_, inl, inr, ⊎-elim, List, [], _++_, append-assoc, ℕ, suc, _+_, _-_, _*_, _/_, _%_}
+use Rattle.numbers.specs.Library.{min, _≤_, _<_, suc-mul, mul-le-mul-right, div-add-mod', mod-lt, le-div-iff-mul-le, div-mul-le-self, decLt, ℕ-discrete, arith}
+use Rattle.numbers.specs.Library.{ltb, length, getD, take, drop, length-take, length-drop, lt-ltb, le-ltb}
+use native.Mathlib.Nat.{add-sub-cancel-left, min-le-left, min-le-right, le-min}
 use lib.Seq.{getD-drop, ext-getD, drop-drop}
-use borrow.Author.Tests.{lt-ltb, le-ltb}
-use Rattle.numbers.specs.Pick.{pick}
+use Rattle.numbers.specs.Prelude.{noRow, mostRows, pick}
 use Rattle.rows.specs.Part.{cut, splice, length-cut, getD-cut, length-splice, before, inside, after}
 
 -- How a value of A stands in a table: as a row of `width` numbers.
@@ -25,9 +19,9 @@ pub record Shape (A : Type 0) : Type 0 where
   pub forth : (r : List ℕ) → length r ≡ width → numbers (value r) ≡ r
 
 module _ {A : Type 0} (s : Shape A) where
-  -- how many rows a table has: the whole ones, and never a row 65535, which is the index that names none
+  -- how many rows a table has: the whole ones, at most 65535, so that none has the index that names no row
   pub rows : List ℕ → ℕ
-  rows l = min (length l / s .width) 65535
+  rows l = min (length l / s .width) mostRows
 
   -- what is left after the last row
   pub rest : List ℕ → List ℕ
@@ -41,11 +35,15 @@ module _ {A : Type 0} (s : Shape A) where
   pub put : List ℕ → ℕ → A → List ℕ
   put l i v = pick (ltb i (rows l)) (splice (s .width) l (i * s .width) (s .numbers v)) l
 
-  pub rows-are : (l : List ℕ) → rows l ≡ min (length l / s .width) 65535
+  pub rows-are : (l : List ℕ) → rows l ≡ min (length l / s .width) mostRows
   unfolding rows
   rows-are l = refl
 
-  pub rows-few : (l : List ℕ) → rows l ≤ 65535
+  pub rows-long : (l t : List ℕ) → length l ≡ length t → rows l ≡ rows t
+  unfolding rows
+  rows-long l t e = rw e
+
+  pub rows-few : (l : List ℕ) → rows l ≤ mostRows
   unfolding rows
   rows-few l = min-le-right _ _
 
@@ -53,9 +51,9 @@ module _ {A : Type 0} (s : Shape A) where
   unfolding rows
   rows-fit l i h =
       rw suc-mul at (le-div-iff-mul-le {k = s .width} {x = suc i} {y = length l} (s .some) .0
-      (omega (arith, min-le-left (length l / s .width) 65535)))
+      (omega (arith, min-le-left (length l / s .width) mostRows)))
 
-  pub fit-rows : (l : List ℕ) (i : ℕ) → i < 65535 → i * s .width + s .width ≤ length l → i < rows l
+  pub fit-rows : (l : List ℕ) (i : ℕ) → i < noRow → i * s .width + s .width ≤ length l → i < rows l
   unfolding rows
   fit-rows l i f h = le-min (le-div-iff-mul-le {k = s .width} {x = suc i} {y = length l} (s .some) .1 (rw suc-mul h)) f
 
@@ -100,7 +98,7 @@ module _ {A : Type 0} (s : Shape A) where
   get-out l i h = rw (le-ltb i (rows l) h)
 
   -- the same, as the leaf's code comes to it: at the index of no row, at a row past the end, and at a part `l[b..e]` that is lent
-  pub get-none : (l : List ℕ) (i : ℕ) → i ≡ 65535 → s .value [] ≡ get l i
+  pub get-none : (l : List ℕ) (i : ℕ) → i ≡ noRow → s .value [] ≡ get l i
   get-none l i e = sym (get-out l i (omega (arith, rows-few l)))
 
   pub get-short : (l : List ℕ) (i : ℕ) → length l < i * s .width + s .width → s .value [] ≡ get l i
@@ -109,17 +107,17 @@ module _ {A : Type 0} (s : Shape A) where
   pub get-there : (l : List ℕ) (i : ℕ) → i < rows l → s .value (take (i * s .width + s .width - i * s .width) (drop (i * s .width) l)) ≡ get l i
   get-there l i h = rw (add-sub-cancel-left, get-in l i h)
 
-  pub get-part : (l : List ℕ) (i : ℕ) → i < 65535 → i * s .width + s .width ≤ length l
+  pub get-part : (l : List ℕ) (i : ℕ) → i < noRow → i * s .width + s .width ≤ length l
       → s .value (take (i * s .width + s .width - i * s .width) (drop (i * s .width) l)) ≡ get l i
   get-part l i f h = get-there l i (fit-rows l i f h)
 
-  pub put-none : (l : List ℕ) (i : ℕ) (v : A) → i ≡ 65535 → l ≡ put l i v
+  pub put-none : (l : List ℕ) (i : ℕ) (v : A) → i ≡ noRow → l ≡ put l i v
   put-none l i v e = sym (put-out l i v (omega (arith, rows-few l)))
 
   pub put-short : (l : List ℕ) (i : ℕ) (v : A) → length l < i * s .width + s .width → l ≡ put l i v
   put-short l i v h = sym (put-out l i v (unfit-rows l i h))
 
-  pub put-part : (l : List ℕ) (i : ℕ) (v : A) → i < 65535 → i * s .width + s .width ≤ length l
+  pub put-part : (l : List ℕ) (i : ℕ) (v : A) → i < noRow → i * s .width + s .width ≤ length l
       → take (i * s .width) l ++ (s .numbers v ++ drop (i * s .width + s .width - i * s .width) (drop (i * s .width) l)) ≡ put l i v
   put-part l i v f h = rw (add-sub-cancel-left, drop-drop, ← append-assoc) (sym (put-in l i v (fit-rows l i f h)))
 

@@ -1,6 +1,5 @@
 -- An item row seen in two views that do not overlap: its two free links, and all else. Assumes nothing.
-use mathlib.Core.Path.{_≡_, ap, _∙_}
-use Prim.Native.Nat.{ℕ}
+use Rattle.numbers.specs.Library.{_≡_, ap, _∙_, ℕ}
 use Rattle.rows.specs.declared.item.ItemRow.{ItemRow}
 
 pub record Body : Type 0 where

@@ -3,16 +3,10 @@ ghost use mathlib.Core.Path.{_≡_};
 ghost use Rattle.rows.specs.Header.{zeroHeader};
 use numbers::index::ItemIndex;
 use numbers::index::ShelfIndex;
+use numbers::limits::Limits;
 
 pub struct Header {
-    // W, the size along the shelves, and H, the size across them.
-    pub width: u16,
-    pub height: u16,
-    pub align_width: u16,
-    pub align_height: u16,
-    pub vertical: u16,
-    // S.
-    pub shelf_width: u16,
+    pub limits: Limits,
     pub used_shelves: u16,
     pub used_items: u16,
     pub free_items: ItemIndex,
@@ -25,12 +19,14 @@ pub fn no_header() -> Header
     ensures { λ r. ⌜ r ≡ zeroHeader ⌝ }
 {
     Header {
-        width: 0,
-        height: 0,
-        align_width: 0,
-        align_height: 0,
-        vertical: 0,
-        shelf_width: 0,
+        limits: Limits {
+            width: 0,
+            height: 0,
+            align_width: 0,
+            align_height: 0,
+            vertical: 0,
+            shelf_width: 0,
+        },
         used_shelves: 0,
         used_items: 0,
         free_items: ItemIndex(0),

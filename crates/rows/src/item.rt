@@ -4,6 +4,7 @@ ghost use lib.ListN.{length};
 ghost use Prim.Native.Nat.{_<_};
 ghost use Rattle.rows.specs.Item.{zeroItem, numbersOf, itemOf, itemCapacity, itemAt, putItem};
 use numbers::index::ItemIndex;
+use numbers::index::MOST_ROWS;
 use numbers::index::ShelfIndex;
 
 // The numbers of a row.
@@ -78,8 +79,8 @@ pub fn item_capacity(items: &[u16]) -> u16
     ensures { λ r. ⌜ r ≡ itemCapacity (now (items .entry)) ⌝ }
 {
     let n = items.len() / NUMBERS;
-    if 65535 < n {
-        return 65535;
+    if n > MOST_ROWS as usize {
+        return MOST_ROWS;
     }
     n as u16
 }

@@ -2,5 +2,4 @@
 pub mod header;
 pub mod item;
 pub mod live;
-pub mod pool;
 pub mod shelf;

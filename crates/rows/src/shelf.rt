@@ -3,6 +3,7 @@ ghost use mathlib.Core.Path.{_≡_};
 ghost use lib.ListN.{length};
 ghost use Rattle.rows.specs.Shelf.{zeroShelf, numbersOf, shelfOf, shelfCapacity, shelfAt, putShelf};
 use numbers::index::ItemIndex;
+use numbers::index::MOST_ROWS;
 use numbers::index::ShelfIndex;
 
 // The numbers of a row.
@@ -73,8 +74,8 @@ pub fn shelf_capacity(shelves: &[u16]) -> u16
     ensures { λ r. ⌜ r ≡ shelfCapacity (now (shelves .entry)) ⌝ }
 {
     let n = shelves.len() / NUMBERS;
-    if 65535 < n {
-        return 65535;
+    if n > MOST_ROWS as usize {
+        return MOST_ROWS;
     }
     n as u16
 }

@@ -1,9 +1,6 @@
-use Prim.Native.Nat.{_-_, _≤_}
-use mathlib.Core.Path.{_≡_, sym, _∙_}
-use native.Mathlib.Omega.{arith}
-use borrow.Author.Needs.{needs}
-use lib.ListN.{drop}
-use Rattle.numbers.specs.Bands.{depthBand}
+-- `depth_band`: a walk along the table of bands that says at each entry what the whole table says. Assumes nothing.
+use Rattle.numbers.specs.Library.{_-_, _≤_, _≡_, sym, _∙_, arith, needs, drop}
+use Rattle.numbers.specs.Prelude.{depthBand}
 use Rattle.numbers.proofs.BandTable.{bandFrom, bands, reached, passed, band-rule, last-band}
 use Rattle.numbers.proofs.bands.depth_band.Statement.{statement}
 use Rattle.numbers.proofs.bands.depth_band.Tie as tie
@@ -18,28 +15,10 @@ abbrev μ-loop : tie.MeasureT-loop
 loop-holds : tie.Need-loop-holds Inv-loop μ-loop
 loop-holds c = (omega arith, band-rule _)
 
-mul-wide : tie.Need-mul-wide Inv-loop μ-loop
-mul-wide c = search needs
-
-index-1-wide : tie.Need-index-1-wide Inv-loop μ-loop
-index-1-wide c = search needs
-
-index-2-wide : tie.Need-index-2-wide Inv-loop μ-loop
-index-2-wide c = search needs
-
-wide-requires : tie.Need-wide-requires Inv-loop μ-loop
-wide-requires c κs = search needs
-
 returns : tie.Need-returns Inv-loop μ-loop
 returns c =
     let s = c .before .before .before .before in
     sym (reached bands (s .before .args .depth) (s .loop .i) (omega arith) (omega arith)) ∙ s .loop .inv .1
-
-add-i : tie.Need-add-i Inv-loop μ-loop
-add-i c = search needs
-
-loop-less : tie.Need-loop-less Inv-loop μ-loop
-loop-less c = search needs
 
 loop-again : tie.Need-loop-again Inv-loop μ-loop
 loop-again c =
@@ -54,4 +33,16 @@ returns-2 c =
 pub depth-band-spec : {M : Type 1} → statement M
 depth-band-spec =
     tie.close
-    (tie.spec Inv-loop μ-loop loop-holds mul-wide index-1-wide index-2-wide wide-requires returns add-i loop-less loop-again returns-2)
+    (tie.spec
+    Inv-loop
+    μ-loop
+    loop-holds
+    (λ c. search needs)
+    (λ c. search needs)
+    (λ c. search needs)
+    (λ c κs. search needs)
+    returns
+    (λ c. search needs)
+    (λ c. search needs)
+    loop-again
+    returns-2)

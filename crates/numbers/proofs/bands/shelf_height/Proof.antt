@@ -1,18 +1,7 @@
-use native.Mathlib.Omega.{arith}
-use mathlib.Core.Path.{sym}
-use borrow.Author.Needs.{needs}
-use Rattle.numbers.specs.Bands.{height-rounded, height-kept}
+use Rattle.numbers.specs.Library.{arith, sym, needs}
+use Rattle.numbers.specs.Prelude.{height-rounded, height-kept}
 use Rattle.numbers.proofs.bands.shelf_height.Statement.{statement}
 use Rattle.numbers.proofs.bands.shelf_height.Tie as tie
-
-depth-step-requires : tie.Need-depth-step-requires
-depth-step-requires c κs = search needs
-
-adjust-size-requires : tie.Need-adjust-size-requires
-adjust-size-requires c κs = search needs
-
-cast-result : tie.Need-cast-result
-cast-result c = search needs
 
 returns : tie.Need-returns
 returns c =
@@ -24,4 +13,10 @@ returns-2 c =
 
 pub shelf-height-spec : {M : Type 1} → statement M
 shelf-height-spec =
-    tie.close (tie.spec depth-step-requires adjust-size-requires cast-result returns returns-2)
+    tie.close
+    (tie.spec
+    (λ c κs. search needs)
+    (λ c κs. search needs)
+    (λ c. search needs)
+    returns
+    returns-2)

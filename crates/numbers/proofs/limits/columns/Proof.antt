@@ -1,12 +1,11 @@
-use mathlib.Core.Path.{refl, sym}
+use Rattle.numbers.specs.Library.{refl, sym, needs}
 use native.Mathlib.Nat.{div-zero}
-use borrow.Author.Needs.{needs}
-use Rattle.numbers.specs.Limits.{columnsOf}
+use Rattle.numbers.specs.Prelude.{columnsOf, columns}
 use Rattle.numbers.proofs.limits.columns.Statement.{statement}
 use Rattle.numbers.proofs.limits.columns.Tie as tie
 
 pub columns-spec : {M : Type 1} → statement M
-unfolding columnsOf
+unfolding columnsOf columns
 columns-spec =
     tie.close
-    (tie.spec (λ c. rw (c .if1 .taken) (sym (div-zero (c .before .args .width)))) (λ c. search needs) (λ c. refl))
+    (tie.spec (λ c. rw (c .if1 .taken) (sym (div-zero (c .before .before .args .l .width)))) (λ c. search needs) (λ c. refl))

@@ -1,31 +1,9 @@
-use mathlib.Core.Path.{_≡_}
-use Rattle.numbers.specs.Sides.{natural, flagOf}
-use Rattle.numbers.specs.Limits.{createNumbers}
+-- `create_numbers`: each raw number is read without its sign, and then judged. Assumes nothing.
+use Rattle.numbers.specs.Library.{_≡_, needs}
+use Rattle.numbers.specs.Prelude.{natural, flagOf, createNumbers}
 use Rattle.numbers.proofs.Signed.{as-given}
-use borrow.Author.Needs.{needs}
 use Rattle.numbers.proofs.limits.create_numbers.Statement.{statement}
 use Rattle.numbers.proofs.limits.create_numbers.Tie as tie
-
-natural-of-requires : tie.Need-natural-of-requires
-natural-of-requires c κs = search needs
-
-natural-of-requires-2 : tie.Need-natural-of-requires-2
-natural-of-requires-2 c κs = search needs
-
-natural-of-requires-3 : tie.Need-natural-of-requires-3
-natural-of-requires-3 c κs = search needs
-
-natural-of-requires-4 : tie.Need-natural-of-requires-4
-natural-of-requires-4 c κs = search needs
-
-flag-of-requires : tie.Need-flag-of-requires
-flag-of-requires c κs = search needs
-
-natural-of-requires-5 : tie.Need-natural-of-requires-5
-natural-of-requires-5 c κs = search needs
-
-judge-limits-requires : tie.Need-judge-limits-requires
-judge-limits-requires c κs = search needs
 
 returns : tie.Need-returns
 unfolding createNumbers
@@ -46,11 +24,11 @@ pub create-numbers-spec : {M : Type 1} → statement M
 create-numbers-spec =
     tie.close
     (tie.spec
-    natural-of-requires
-    natural-of-requires-2
-    natural-of-requires-3
-    natural-of-requires-4
-    flag-of-requires
-    natural-of-requires-5
-    judge-limits-requires
+    (λ c κs. search needs)
+    (λ c κs. search needs)
+    (λ c κs. search needs)
+    (λ c κs. search needs)
+    (λ c κs. search needs)
+    (λ c κs. search needs)
+    (λ c κs. search needs)
     returns)

@@ -1,19 +1,11 @@
-use mathlib.Core.Path.{refl}
-use borrow.Author.Needs.{needs}
-use Rattle.numbers.specs.Tests.{stop, go-on}
-use Rattle.numbers.specs.Limits.{optionsGood}
+use Rattle.numbers.specs.Library.{refl, needs}
+use Rattle.numbers.specs.Prelude.{stop, go-on, optionsGood}
 use Rattle.numbers.proofs.limits.options_good.Statement.{statement}
 use Rattle.numbers.proofs.limits.options_good.Tie as tie
-
-one-to-requires : tie.Need-one-to-requires
-one-to-requires c κs = search needs
 
 returns : tie.Need-returns
 unfolding optionsGood
 returns c = stop _ _ (c .before .one-to .ensures) (c .if1 .taken)
-
-one-to-requires-2 : tie.Need-one-to-requires-2
-one-to-requires-2 c κs = search needs
 
 returns-2 : tie.Need-returns-2
 unfolding optionsGood
@@ -28,5 +20,4 @@ returns-3 c =
     go-on _ _ (k .before .one-to .ensures) (k .if1 .left) (go-on _ _ (c .before .one-to2 .ensures) (c .if2 .left) refl)
 
 pub options-good-spec : {M : Type 1} → statement M
-options-good-spec =
-    tie.close (tie.spec one-to-requires returns one-to-requires-2 returns-2 returns-3)
+options-good-spec = tie.close (tie.spec (λ c κs. search needs) returns (λ c κs. search needs) returns-2 returns-3)

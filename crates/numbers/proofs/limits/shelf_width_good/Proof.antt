@@ -1,12 +1,5 @@
-use Prim.Native.Nat.{_%_}
-use mathlib.Core.Path.{_≡_, refl, sym, _∙_}
-use native.Mathlib.Nat.{mod-zero}
-use native.Mathlib.Omega.{arith}
-use borrow.Author.Needs.{needs}
-use borrow.Author.Tests.{ne-eqb, not-false}
-use Rattle.numbers.specs.Sides.{one-to-true}
-use Rattle.numbers.specs.Tests.{stop, go-on}
-use Rattle.numbers.specs.Limits.{shelfWidthGood}
+use Rattle.numbers.specs.Library.{_%_, _≡_, refl, sym, _∙_, mod-zero, arith, needs, ne-eqb, not-false}
+use Rattle.numbers.specs.Prelude.{one-to, stop, go-on, shelfWidthGood}
 use Rattle.numbers.proofs.limits.shelf_width_good.Statement.{statement}
 use Rattle.numbers.proofs.limits.shelf_width_good.Tie as tie
 
@@ -19,7 +12,7 @@ unfolding shelfWidthGood
 returns-2 c =
     let k = c .before in
     let s = k .before .before .args in
-    let w = one-to-true (s .width) (s .shelf-width) (sym (k .before .one-to .ensures) ∙ not-false _ (k .if1 .left)) in
+    let w = one-to (s .width) (s .shelf-width) .sound (sym (k .before .one-to .ensures) ∙ not-false _ (k .if1 .left)) in
     let m : s .shelf-width % s .step ≡ s .shelf-width = rw (c .if2 .taken) (mod-zero (s .shelf-width)) in
     go-on _ _ (k .before .one-to .ensures) (k .if1 .left) (sym (ne-eqb _ _ (λ (z : s .shelf-width % s .step ≡ 0). omega arith)))
 

@@ -1,9 +1,6 @@
-use Prim.Native.Nat.{_/_}
-use mathlib.Core.Path.{refl}
-use native.Mathlib.Nat.{div-zero, mod-zero, mod-le}
-use native.Mathlib.Omega.{arith}
-use borrow.Author.Needs.{needs}
-use Rattle.numbers.specs.Limits.{shelfWidthOf}
+use Rattle.numbers.specs.Library.{_/_, refl, mod-zero, arith, needs}
+use native.Mathlib.Nat.{div-zero, mod-le}
+use Rattle.numbers.specs.Prelude.{shelfWidthOf}
 use Rattle.numbers.proofs.limits.shelf_width_of.Statement.{statement}
 use Rattle.numbers.proofs.limits.shelf_width_of.Tie as tie
 

@@ -1,13 +1,5 @@
-use mathlib.Core.Path.{_≡_, sym}
-use mathlib.Core.Bool.{true, false}
-use native.Mathlib.Omega.{arith}
-use lib.IntN.{pos}
-use lib.Signed.{ltZ}
-use mir.Syntax.{w32}
-use mir.Val.{toZ, ofZ}
-use mir.Facts.{toZ-ofZ}
-use borrow.Author.Needs.{needs}
-use Rattle.numbers.specs.Sides.{natural, flag-negative, flag-positive}
+use Rattle.numbers.specs.Library.{_≡_, sym, true, false, arith, pos, ltZ, w32, toZ, ofZ, toZ-ofZ, needs}
+use Rattle.numbers.specs.Prelude.{natural, flag-negative, flag-positive}
 use Rattle.numbers.proofs.Signed.{as-given}
 use Rattle.numbers.proofs.sides.flag_of.Statement.{statement}
 use Rattle.numbers.proofs.sides.flag_of.Tie as tie
@@ -17,12 +9,6 @@ returns c =
     let s = c .before in
     let t : ltZ (toZ w32 (ofZ w32 (s .args .raw))) (pos 0) ≡ true = c .if1 .taken in
     sym (flag-negative (s .args .raw) (simp (toZ-ofZ (s .fits .raw)) at t))
-
-natural-of-requires : tie.Need-natural-of-requires
-natural-of-requires c κs = search needs
-
-cast-result : tie.Need-cast-result
-cast-result c = search needs
 
 returns-2 : tie.Need-returns-2
 returns-2 c =
@@ -39,4 +25,4 @@ returns-3 c =
     omega (arith, flag-positive (s .args .raw) (simp (toZ-ofZ (s .fits .raw)) at t))
 
 pub flag-of-spec : {M : Type 1} → statement M
-flag-of-spec = tie.close (tie.spec returns natural-of-requires cast-result returns-2 returns-3)
+flag-of-spec = tie.close (tie.spec returns (λ c κs. search needs) (λ c. search needs) returns-2 returns-3)

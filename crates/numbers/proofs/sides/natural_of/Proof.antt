@@ -1,11 +1,6 @@
-use mathlib.Core.Path.{_≡_, sym}
-use mathlib.Core.Bool.{true, false}
-use lib.IntN.{pos}
-use lib.Signed.{ltZ}
-use mir.Syntax.{w32}
-use mir.Val.{toZ, ofZ}
-use mir.Facts.{toZ-ofZ, fits-natAbs}
-use Rattle.numbers.specs.Sides.{natural-negative, natural-positive}
+use Rattle.numbers.specs.Library.{_≡_, sym, true, false, pos, ltZ, w32, toZ, ofZ, toZ-ofZ}
+use mir.Facts.{fits-natAbs}
+use Rattle.numbers.specs.Prelude.{natural-negative, natural-positive}
 use Rattle.numbers.proofs.sides.natural_of.Statement.{statement}
 use Rattle.numbers.proofs.sides.natural_of.Tie as tie
 

@@ -1,6 +1,5 @@
-use native.Mathlib.Omega.{arith}
-use borrow.Author.Tests.{le-leb, lt-leb}
-use Rattle.numbers.specs.Sides.{oneTo}
+use Rattle.numbers.specs.Library.{arith, le-leb, lt-leb}
+use Rattle.numbers.specs.Prelude.{oneTo}
 use Rattle.numbers.proofs.sides.one_to.Statement.{statement}
 use Rattle.numbers.proofs.sides.one_to.Tie as tie
 

@@ -1,6 +1,5 @@
-use borrow.Author.Needs.{needs}
-use Rattle.rows.specs.Row.{get-none, get-short, fit-rows}
-use Rattle.rows.specs.Item.{items}
+use Rattle.numbers.specs.Library.{needs}
+use Rattle.rows.specs.Prelude.{get-none, get-short, fit-rows, items}
 use Rattle.rows.proofs.item.get_item.Statement.{statement}
 use Rattle.rows.proofs.item.get_item.Tie as tie
 

@@ -1,7 +1,5 @@
-use borrow.Author.Needs.{needs}
-use native.Mathlib.Omega.{arith}
-use Rattle.rows.specs.Row.{rows-fit, get-there}
-use Rattle.rows.specs.Item.{items}
+use Rattle.numbers.specs.Library.{needs, arith}
+use Rattle.rows.specs.Prelude.{rows-fit, get-there, items}
 use Rattle.rows.proofs.item.item_there.Statement.{statement}
 use Rattle.rows.proofs.item.item_there.Tie as tie
 

@@ -1,6 +1,5 @@
-use borrow.Author.Needs.{needs}
-use Rattle.rows.specs.Row.{put-none, put-short, put-part}
-use Rattle.rows.specs.Item.{items}
+use Rattle.numbers.specs.Library.{needs}
+use Rattle.rows.specs.Prelude.{put-none, put-short, put-part, items}
 use Rattle.rows.proofs.item.put_item.Statement.{statement}
 use Rattle.rows.proofs.item.put_item.Tie as tie
 

@@ -1,7 +1,5 @@
-use native.Mathlib.Omega.{arith}
-use lib.ListN.{length-set}
-use denote.Ref.{now}
-use Rattle.rows.specs.Part.{sets-all}
+use Rattle.numbers.specs.Library.{arith, length-set, now}
+use Rattle.rows.specs.Prelude.{sets-all}
 use Rattle.rows.specs.Item.{numbersOf}
 use Rattle.rows.proofs.item.write_item.Statement.{statement}
 use Rattle.rows.proofs.item.write_item.Tie as tie
