@@ -1,8 +1,6 @@
 -- A flag as the tables hold it, 0 or 1. Assumes nothing.
-use mathlib.Core.Path.{_≡_, refl}
-use mathlib.Core.Bool.{Bool, true, false}
-use lib.Dec.{eqb}
-use Rattle.rules.specs.Lies.{flag}
+use Rattle.numbers.specs.Library.{_≡_, refl, Bool, true, false, eqb}
+use Rattle.rules.specs.Prelude.{flag}
 
 pub flag-one : (b : Bool) → eqb (flag b) 1 ≡ b
 flag-one true = refl

@@ -1,2 +1,3 @@
 pub mod Flags
 pub mod LiveRows
+pub mod Frames

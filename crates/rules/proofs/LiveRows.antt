@@ -1,13 +1,9 @@
 -- The rows of live items, and of free ones, are rows of items; none is both. Assumes nothing.
-use Prim.Native.Nat.{ℕ}
-use mathlib.Core.Bool.{Bool, true, false}
-use mathlib.Core.List.{List, [], _∷_, List·Memᴰ·not-nil}
-use Rattle.numbers.specs.Pick.{pick}
-use Rattle.chains.specs.Lists.{_∈_, Distinct, Apart}
-use Rattle.chains.proofs.Chains.{within, parts-apart}
-use Rattle.rules.specs.Atlas.{Item}
-use Rattle.rules.specs.Lies.{liveRows, freeRows}
-use Rattle.rules.specs.Keeps.{itemRows}
+use Rattle.numbers.specs.Library.{ℕ, Bool, true, false, List, [], _∷_, List·Memᴰ·not-nil}
+use Rattle.numbers.specs.Prelude.{pick}
+use Rattle.chains.specs.Prelude.{_∈_, Distinct, Apart}
+use Rattle.chains.proofs.Prelude.{within, parts-apart}
+use Rattle.rules.specs.Prelude.{Item, liveRows, freeRows, itemRows}
 
 pub a-live : (b : Bool) (x r : ℕ) → r ∈ pick b (x ∷ []) [] → r ∈ (x ∷ [])
 a-live true x r m = m

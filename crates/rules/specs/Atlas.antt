@@ -1,10 +1,7 @@
 -- An atlas as document 01 speaks of it: columns of shelves, shelves of stretches, and the rows that name them. No link and no
--- offset stands here: how an atlas lies in the two tables is told in Lies. Assumes nothing.
-use Prim.Native.Nat.{ℕ, zero, suc, _+_, _*_}
-use mathlib.Core.Bool.{Bool, false, not}
-use mathlib.Core.List.{List, [], _∷_}
-use Rattle.numbers.specs.Pick.{pick}
-use Rattle.rules.specs.Limits.{columns}
+-- offset stands here: how an atlas lies in the two tables is told in Stores. Assumes nothing.
+use Rattle.numbers.specs.Library.{ℕ, zero, suc, _+_, _*_, Bool, false, not, List, [], _∷_}
+use Rattle.numbers.specs.Prelude.{pick, columns}
 use Rattle.numbers.specs.declared.limits.Limits.{Limits}
 
 -- A stretch of a shelf, live or free.
@@ -14,6 +11,13 @@ pub record Item : Type 0 where
   pub width : ℕ
   pub live : Bool
   pub generation : ℕ
+
+-- a free item; and an item of another width, live or free, that keeps its row, its place and its generation
+abbrev pub freeItem : ℕ → ℕ → ℕ → ℕ → Item
+freeItem row x width generation = record { row = row; x = x; width = width; live = false; generation = generation }
+
+abbrev pub resized : Item → ℕ → Bool → Item
+resized i width live = record { row = i .row; x = i .x; width = width; live = live; generation = i .generation }
 
 -- A shelf: its items from its left end to its right, and the rows of its free items in the order of its free list.
 pub record Shelf : Type 0 where
@@ -73,7 +77,7 @@ freshShelf l k = record {
   x = k * l .«shelf_width»;
   y = 0;
   depth = l .height;
-  items = record { row = k; x = k * l .«shelf_width»; width = l .«shelf_width»; live = false; generation = 1 } ∷ [];
+  items = freeItem k (k * l .«shelf_width») (l .«shelf_width») 1 ∷ [];
   free = k ∷ [];
 }
 

@@ -1,40 +1,15 @@
 -- The audit: document 01's seven rules, each under its number, over any header and any two tables; and the atlas that lies in tables that
 -- keep them. `S` is the shelf table and `I` the item table throughout. Assumes nothing.
-use Prim.Native.Nat.{ℕ, _+_, _*_, _%_, _≤_, _<_}
-use mathlib.Core.Path.{_≡_}
-use mathlib.Core.Bool.{Bool, false, not, _&&_}
-use mathlib.Core.List.{List, [], _∷_, map}
-use lib.Dec.{ltb, eqb}
-use Rattle.numbers.specs.Pick.{pick}
-use Rattle.numbers.specs.Index.{noRow}
-use Rattle.numbers.specs.Limits.{alongStep}
-use Rattle.rules.specs.Limits.{columns, WithinLimits}
-use Rattle.numbers.specs.declared.limits.Limits.{Limits}
-use Rattle.rows.specs.Row.{rows, get}
-use Rattle.rows.specs.Item.{items}
-use Rattle.rows.specs.Shelf.{shelves}
-use Rattle.rows.specs.Pool.{FreedShelf, FreedItem}
-use Rattle.rows.specs.Views.{linksOf}
-use Rattle.rows.specs.declared.header.Header.{Header}
-use Rattle.rows.specs.declared.shelf.ShelfRow.{ShelfRow}
-use Rattle.rows.specs.declared.item.ItemRow.{ItemRow}
-use Rattle.chains.specs.Lists.{_∈_, _iff_, Distinct, Each, gather}
-use Rattle.chains.specs.Chain.{firstOf}
-use Rattle.chains.specs.Walk.{rowsFrom, Ends, Walk}
+use Rattle.numbers.specs.Library.{ℕ, _+_, _*_, _%_, _≤_, _<_, _≡_, Bool, false, not, _&&_, List, [], _∷_, map, ltb, eqb}
+use Rattle.numbers.specs.Prelude.{pick, noRow, alongStep, columns, WithinLimits}
+use Rattle.rows.specs.Prelude.{rows, get, items, shelves, linksOf}
+use Rattle.pool.specs.Pool.{FreedShelf, FreedItem}
+use Rattle.rows.specs.declared.{header.Header.Header, shelf.ShelfRow.ShelfRow, item.ItemRow.ItemRow}
+use Rattle.chains.specs.Prelude.{_∈_, _iff_, Distinct, Each, gather, firstOf, rowsFrom, Ends, Walk}
 use Rattle.rules.specs.Atlas.{Item, Shelf, Freed, Atlas}
-use Rattle.rules.specs.Lies.{flag, noLinks}
+use Rattle.rules.specs.Stores.{flag, noLinks}
 
 -- ---- reading the tables: the rows that are met along each chain
-
-unfoldable pub limitsOf : Header → Limits
-limitsOf h = record {
-  width = h .width;
-  height = h .height;
-  «align_width» = h .«align_width»;
-  «align_height» = h .«align_height»;
-  vertical = h .vertical;
-  «shelf_width» = h .«shelf_width»;
-}
 
 -- the links of a row, as numbers
 abbrev pub shelfNext : List ℕ → ℕ → ℕ
@@ -71,7 +46,7 @@ freedItemsMet h I = rowsFrom (itemNext I) (h .«used_items») (h .«free_items»
 -- ---- rule 1: "Header within the limits above, vertical 0 or 1, S from 1 to W and a multiple of the along alignment, used rows within capacity."
 
 pub record Rule1 (h : Header) (S I : List ℕ) : Type 0 where
-  pub limits : WithinLimits (limitsOf h)
+  pub limits : WithinLimits (h .limits)
   pub shelves-fit : h .«used_shelves» ≤ rows shelves S
   pub items-fit : h .«used_items» ≤ rows items I
 
@@ -82,7 +57,7 @@ pub record Down : Type 0 where
   pub prev : ℕ
   pub column : ℕ
   pub y : ℕ
-  pub under-empty : Bool
+  pub underEmpty : Bool
 
 -- "a shelf's empty flag is 1 if its first item is a used row, free, with no next, else 0"
 unfoldable pub oneFree : Header → List ℕ → ℕ → Bool
@@ -92,25 +67,25 @@ oneFree h I first = ltb first (h .«used_items») && eqb (get items I first .all
 -- a gap; no two empty shelves adjoin in a column."
 pub record ShelfRight (h : Header) (I : List ℕ) (d : Down) (s : ShelfRow) : Type 0 where
   pub back : s .prev .0 ≡ d .prev
-  pub at-column : s .x ≡ d .column * h .«shelf_width»
+  pub at-column : s .x ≡ d .column * h .limits .«shelf_width»
   pub at-depth : s .y ≡ d .y
   pub some-depth : 1 ≤ s .height
-  pub in-column : d .y + s .height ≤ h .height
+  pub in-column : d .y + s .height ≤ h .limits .height
   pub flag-right : s .«is_empty» ≡ flag (oneFree h I (s .«first_item» .0))
-  pub apart : d .under-empty && eqb (s .«is_empty») 1 ≡ false
+  pub apart : d .underEmpty && eqb (s .«is_empty») 1 ≡ false
 
 -- past the shelf in row r: on in its column, or at the head of the next
 unfoldable pub down : Header → Down → ℕ → ShelfRow → Down
 down h d r s =
-    pick (eqb (d .y + s .height) (h .height))
-    (record { prev = r; column = d .column + 1; y = 0; under-empty = false })
-    (record { prev = r; column = d .column; y = d .y + s .height; under-empty = eqb (s .«is_empty») 1 })
+    pick (eqb (d .y + s .height) (h .limits .height))
+    (record { prev = r; column = d .column + 1; y = 0; underEmpty = false })
+    (record { prev = r; column = d .column; y = d .y + s .height; underEmpty = eqb (s .«is_empty») 1 })
 
 abbrev pub atTop : Down
-atTop = record { prev = noRow; column = 0; y = 0; under-empty = false }
+atTop = record { prev = noRow; column = 0; y = 0; underEmpty = false }
 
 abbrev pub AllColumns : Header → Down → Type 0
-AllColumns h d = (d .column ≡ columns (limitsOf h)) × (d .y ≡ 0)
+AllColumns h d = (d .column ≡ columns (h .limits)) × (d .y ≡ 0)
 
 unfoldable pub Rule2 : Header → List ℕ → List ℕ → Type 0
 Rule2 h S I =
@@ -122,7 +97,7 @@ Rule2 h S I =
 pub record Along : Type 0 where
   pub prev : ℕ
   pub x : ℕ
-  pub after-free : Bool
+  pub afterFree : Bool
 
 -- "Each shelf's items are linked both ways, name that shelf, start at its x, run S without a gap, with widths that are positive multiples of
 -- the along alignment and flags 0 or 1; no two free items adjoin."
@@ -131,21 +106,21 @@ pub record ItemRight (h : Header) (on : ℕ) (d : Along) (i : ItemRow) : Type 0 
   pub named : i .shelf .0 ≡ on
   pub at-x : i .x ≡ d .x
   pub some-width : 1 ≤ i .width
-  pub aligned : i .width % alongStep (limitsOf h) ≡ 0
+  pub aligned : i .width % alongStep (h .limits) ≡ 0
   pub flag-right : i .allocated ≤ 1
-  pub apart : d .after-free && eqb (i .allocated) 0 ≡ false
+  pub apart : d .afterFree && eqb (i .allocated) 0 ≡ false
 
 unfoldable pub along : Along → ℕ → ItemRow → Along
-along d r i = record { prev = r; x = d .x + i .width; after-free = eqb (i .allocated) 0 }
+along d r i = record { prev = r; x = d .x + i .width; afterFree = eqb (i .allocated) 0 }
 
 abbrev pub atLeft : ShelfRow → Along
-atLeft s = record { prev = noRow; x = s .x; after-free = false }
+atLeft s = record { prev = noRow; x = s .x; afterFree = false }
 
 -- the items of the shelf in row `on`
 unfoldable pub ItemsRight : Header → List ℕ → List ℕ → ℕ → Type 0
 ItemsRight h S I on =
     Walk (itemNext I) (λ d r. ItemRight h on d (get items I r)) (λ d r. along d r (get items I r))
-    (λ d. d .x ≡ get shelves S on .x + h .«shelf_width») (h .«used_items») (get shelves S on .«first_item» .0) (atLeft (get shelves S on))
+    (λ d. d .x ≡ get shelves S on .x + h .limits .«shelf_width») (h .«used_items») (get shelves S on .«first_item» .0) (atLeft (get shelves S on))
 
 unfoldable pub Rule3 : Header → List ℕ → List ℕ → Type 0
 unfolding shelvesMet
@@ -214,8 +189,8 @@ pub record Passes (h : Header) (S I : List ℕ) : Type 0 where
 -- "Clear asks only audit rule 1 and C rows in each table."
 pub record PassesForClear (h : Header) (S I : List ℕ) : Type 0 where
   pub rule1 : Rule1 h S I
-  pub shelf-room : columns (limitsOf h) ≤ rows shelves S
-  pub item-room : columns (limitsOf h) ≤ rows items I
+  pub shelf-room : columns (h .limits) ≤ rows shelves S
+  pub item-room : columns (h .limits) ≤ rows items I
 
 -- ---- the atlas that is met in the tables
 
@@ -237,9 +212,9 @@ unfoldable pub freedIn : List ℕ → ℕ → Freed
 freedIn I r = record { row = r; generation = get items I r .generation }
 
 unfoldable pub atlasIn : Header → List ℕ → List ℕ → Atlas
-unfolding shelvesMet shelfIn freedShelvesMet freedItemsMet freedIn limitsOf
+unfolding shelvesMet shelfIn freedShelvesMet freedItemsMet freedIn
 atlasIn h S I = record {
-  limits = limitsOf h;
+  limits = h .limits;
   shelves = map (shelfIn h S I) (shelvesMet h S);
   rows = record {
     shelves = record { used = h .«used_shelves»; freed = freedShelvesMet h S };

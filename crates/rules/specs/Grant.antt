@@ -1,18 +1,11 @@
 -- What a grant changes: rows are taken, the shelf and the item are split where 01 says so. Assumes nothing.
-use Prim.Native.Nat.{ℕ, _+_, _-_, _%_}
-use mathlib.Core.Bool.{Bool, true, false, _&&_, _||_}
-use mathlib.Core.List.{List, [], _∷_, _++_}
-use mathlib.Core.Option.{Option, none, some}
-use lib.ListN.{length}
-use lib.Dec.{ltb, eqb}
-use Rattle.numbers.specs.Pick.{pick}
-use Rattle.numbers.specs.Fit.{largeEnoughToSplit}
-use Rattle.numbers.specs.declared.limits.Limits.{Limits}
-use Rattle.numbers.specs.declared.request.Asked.{Asked}
-use Rattle.chains.specs.Lists.{Focus, back-onto}
+use Rattle.numbers.specs.Library.{ℕ, _+_, _-_, _%_, Bool, true, false, _&&_, _||_, List, [], _∷_, _++_, Option, none, some, length, ltb, eqb}
+use Rattle.numbers.specs.Prelude.{pick, largeEnoughToSplit, firstAxis, secondAxis}
+use Rattle.numbers.specs.declared.{limits.Limits.Limits, request.Asked.Asked}
+use Rattle.chains.specs.Prelude.{Focus, backOnto}
 use Rattle.rows.specs.declared.live.Live.{Live}
-use Rattle.rules.specs.Limits.{xOf, yOf}
-use Rattle.rules.specs.Atlas.{Item, Shelf, Freed, Pool, Rows, Atlas, Room, isEmpty}
+use Rattle.rules.specs.Outcome.{Outcome, refused, gives, Given}
+use Rattle.rules.specs.Atlas.{Item, Shelf, Freed, Pool, Rows, Atlas, Room, isEmpty, resized, freeItem}
 use Rattle.rules.specs.Search.{nothing, good, bad, search}
 
 -- ---- rows: the latest freed one first, with its old generation plus one; else the next unused one, generation 1
@@ -64,7 +57,7 @@ lowerPart l r d s = record {
   x = s .x;
   y = s .y + d;
   depth = s .depth - d;
-  items = record { row = newItemRow r; x = s .x; width = l .«shelf_width»; live = false; generation = newGeneration (r .items) } ∷ [];
+  items = freeItem (newItemRow r) (s .x) (l .«shelf_width») (newGeneration (r .items)) ∷ [];
   free = newItemRow r ∷ [];
 }
 
@@ -72,12 +65,12 @@ lowerPart l r d s = record {
 unfoldable pub splitsItem : Asked → Item → Bool
 splitsItem a i = largeEnoughToSplit (a .width) (i .width)
 
-unfoldable pub granted : Item → ℕ → Item
-granted i width = record { row = i .row; x = i .x; width = width; live = true; generation = i .generation }
+unfoldable pub grantedItem : Item → ℕ → Item
+grantedItem i width = resized i width true
 
-unfoldable pub rest-of : Rows → Item → ℕ → Item
+unfoldable pub restOf : Rows → Item → ℕ → Item
 unfolding newItemRow newGeneration
-rest-of r i width = record { row = newItemRow r; x = i .x + width; width = i .width - width; live = false; generation = newGeneration (r .items) }
+restOf r i width = freeItem (newItemRow r) (i .x + width) (i .width - width) (newGeneration (r .items))
 
 -- a row of a list replaced by other rows
 unfoldable pub replaceRow : ℕ → List ℕ → List ℕ → List ℕ
@@ -90,14 +83,14 @@ holding s items free = record { row = s .row; x = s .x; y = s .y; depth = s .dep
 
 -- the shelf with an item granted whole, and with the left part of it granted
 unfoldable pub grantWhole : Shelf → Focus Item → Shelf
-unfolding granted replaceRow holding
+unfolding grantedItem replaceRow holding
 grantWhole s f =
-    holding s (back-onto (f .before) (granted (f .this) (f .this .width) ∷ f .after)) (replaceRow (f .this .row) [] (s .free))
+    holding s (backOnto (f .before) (grantedItem (f .this) (f .this .width) ∷ f .after)) (replaceRow (f .this .row) [] (s .free))
 
 unfoldable pub grantPart : Rows → Shelf → Focus Item → ℕ → Shelf
-unfolding granted rest-of replaceRow holding
+unfolding grantedItem restOf replaceRow holding
 grantPart r s f width =
-    holding s (back-onto (f .before) (granted (f .this) width ∷ rest-of r (f .this) width ∷ f .after)) (replaceRow (f .this .row) (newItemRow r ∷ []) (s .free))
+    holding s (backOnto (f .before) (grantedItem (f .this) width ∷ restOf r (f .this) width ∷ f .after)) (replaceRow (f .this .row) (newItemRow r ∷ []) (s .free))
 
 -- ---- answer 7: the chosen splits need more rows of a table than are freed or unused there
 
@@ -118,39 +111,38 @@ tooFewRows room r shelfSplit itemSplit =
 
 -- the id of an item and its rectangle, from its least corner to its greatest; with vertical shelves x and y change places
 unfoldable pub liveOf : Limits → Shelf → Item → Live
-unfolding xOf yOf
+unfolding firstAxis secondAxis
 liveOf l s i = record {
   row = i .row;
   generation = i .generation;
-  x0 = xOf l (i .x) (s .y);
-  y0 = yOf l (i .x) (s .y);
-  x1 = xOf l (i .x + i .width) (s .y + s .depth);
-  y1 = yOf l (i .x + i .width) (s .y + s .depth);
+  x0 = firstAxis (l .vertical) (i .x) (s .y);
+  y0 = secondAxis (l .vertical) (i .x) (s .y);
+  x1 = firstAxis (l .vertical) (i .x + i .width) (s .y + s .depth);
+  y1 = secondAxis (l .vertical) (i .x + i .width) (s .y + s .depth);
 }
 
-pub data Outcome : Type 0 where
-  refused : ℕ → Outcome
-  grants : Live → Atlas → Outcome
+abbrev pub grants : Live → Atlas → Outcome (Given Live)
+grants live a = gives (record { told = live; atlas = a })
 
 -- the item of shelf s granted, whole or in part; `below` is what then follows the shelf in the chain
-unfoldable pub place : Atlas → Asked → Focus Shelf → Focus Item → List Shelf → Rows → Outcome
-unfolding splitsItem grantWhole grantPart itemTaken liveOf granted
-place a asked f i below r =
+unfoldable pub grantItem : Atlas → Asked → Focus Shelf → Focus Item → List Shelf → Rows → Outcome (Given Live)
+unfolding splitsItem grantWhole grantPart itemTaken liveOf grantedItem
+grantItem a asked f i below r =
     pick (splitsItem asked (i .this))
-    (grants (liveOf (a .limits) (f .this) (granted (i .this) (asked .width)))
-    (record { limits = a .limits; shelves = back-onto (f .before) (grantPart r (f .this) i (asked .width) ∷ below); rows = itemTaken r }))
-    (grants (liveOf (a .limits) (f .this) (granted (i .this) (i .this .width)))
-    (record { limits = a .limits; shelves = back-onto (f .before) (grantWhole (f .this) i ∷ below); rows = r }))
+    (grants (liveOf (a .limits) (f .this) (grantedItem (i .this) (asked .width)))
+    (record { limits = a .limits; shelves = backOnto (f .before) (grantPart r (f .this) i (asked .width) ∷ below); rows = itemTaken r }))
+    (grants (liveOf (a .limits) (f .this) (grantedItem (i .this) (i .this .width)))
+    (record { limits = a .limits; shelves = backOnto (f .before) (grantWhole (f .this) i ∷ below); rows = r }))
 
 -- "The shelf split takes its shelf row and item row before the item split takes one."
-unfoldable pub placeIn : Room → Atlas → Asked → Focus Shelf → Focus Item → Outcome
-unfolding place splitsShelf splitsItem tooFewRows shelfTaken itemTaken upperPart lowerPart
-placeIn room a asked f i =
+unfoldable pub grantInShelf : Room → Atlas → Asked → Focus Shelf → Focus Item → Outcome (Given Live)
+unfolding grantItem splitsShelf splitsItem tooFewRows shelfTaken itemTaken upperPart lowerPart
+grantInShelf room a asked f i =
     pick (tooFewRows room (a .rows) (splitsShelf asked (f .this)) (splitsItem asked (i .this))) (refused 7)
     (pick (splitsShelf asked (f .this))
-    (place a asked (record { before = f .before; this = upperPart (asked .depth) (f .this); after = f .after }) i
+    (grantItem a asked (record { before = f .before; this = upperPart (asked .depth) (f .this); after = f .after }) i
     (lowerPart (a .limits) (a .rows) (asked .depth) (f .this) ∷ f .after) (itemTaken (shelfTaken (a .rows))))
-    (place a asked f i (f .after) (a .rows)))
+    (grantItem a asked f i (f .after) (a .rows)))
 
 -- the first item of this row, where it stands
 unfoldable pub findItem : ℕ → List Item → List Item → Option (Focus Item)
@@ -158,12 +150,12 @@ findItem row before [] = none
 findItem row before (i ∷ after) =
     pick (eqb row (i .row)) (some (record { before = before; this = i; after = after })) (findItem row (i ∷ before) after)
 
-unfoldable pub placeAt : Room → Atlas → Asked → Focus Shelf → ℕ → Outcome
-unfolding findItem placeIn
-placeAt room a asked f row = elim (findItem row [] (f .this .items)) [ none ↦ refused 6 | some i ↦ placeIn room a asked f i ]
+unfoldable pub grantRow : Room → Atlas → Asked → Focus Shelf → ℕ → Outcome (Given Live)
+unfolding findItem grantInShelf
+grantRow room a asked f row = elim (findItem row [] (f .this .items)) [ none ↦ refused 6 | some i ↦ grantInShelf room a asked f i ]
 
 -- answer 6: no shelf and free item fit
-unfoldable pub grant : Room → Atlas → Asked → Outcome
-unfolding search placeAt
+unfoldable pub grant : Room → Atlas → Asked → Outcome (Given Live)
+unfolding search grantRow
 grant room a asked =
-    elim (search asked (a .shelves)) [ nothing ↦ refused 6 | good f row ↦ placeAt room a asked f row | bad f row ↦ placeAt room a asked f row ]
+    elim (search asked (a .shelves)) [ nothing ↦ refused 6 | good f row ↦ grantRow room a asked f row | bad f row ↦ grantRow room a asked f row ]

@@ -1,10 +1,13 @@
-pub mod Limits
 pub mod Atlas
+pub mod Outcome
 pub mod Search
 pub mod Grant
 pub mod Release
-pub mod Lies
-pub mod Keeps
+pub mod Stores
+pub mod WellFormed
 pub mod Audit
 pub mod Calls
+pub mod Step
+pub mod Promise
 pub mod Examples
+pub mod Prelude

@@ -1,12 +1,8 @@
 -- What a release changes: the item is merged with its free neighbours, an emptied shelf with its empty ones. Assumes nothing.
-use Prim.Native.Nat.{ℕ, _+_}
-use mathlib.Core.Bool.{Bool, false, _&&_}
-use mathlib.Core.List.{List, [], _∷_}
-use mathlib.Core.Option.{Option, none, some}
-use lib.Dec.{eqb}
-use Rattle.numbers.specs.Pick.{pick}
-use Rattle.chains.specs.Lists.{Focus, back-onto}
-use Rattle.rules.specs.Atlas.{Item, Shelf, Pool, Rows, Atlas, isEmpty}
+use Rattle.numbers.specs.Library.{ℕ, _+_, Bool, false, _&&_, List, [], _∷_, Option, none, some, eqb}
+use Rattle.numbers.specs.Prelude.{pick}
+use Rattle.chains.specs.Prelude.{Focus, backOnto}
+use Rattle.rules.specs.Atlas.{Item, Shelf, Pool, Rows, Atlas, isEmpty, resized}
 use Rattle.rules.specs.Grant.{findItem, replaceRow, holding}
 
 -- ---- a freed row goes to the front of its chain
@@ -30,7 +26,7 @@ freeShelf s r = elim (s .items) [ [] ↦ freeShelfRow s r | i ∷ rest ↦ freeS
 -- ---- items
 
 unfoldable pub freeWith : Item → ℕ → Item
-freeWith i width = record { row = i .row; x = i .x; width = width; live = false; generation = i .generation }
+freeWith i width = resized i width false
 
 -- A shelf's items and free list, and the rows, on the way through a release.
 pub record Loose : Type 0 where
@@ -139,6 +135,6 @@ unfoldable pub releaseFound : Atlas → Found → Atlas
 unfolding mergeNext mergeInto mergeBelow mergeAbove holding
 releaseFound a w =
     let m : Loose = mergeInto (mergeNext (record { items = w .item; free = w .shelf .this .free; rows = a .rows })) in
-    let loosened : Shelf = holding (w .shelf .this) (back-onto (m .items .before) (m .items .this ∷ m .items .after)) (m .free) in
+    let loosened : Shelf = holding (w .shelf .this) (backOnto (m .items .before) (m .items .this ∷ m .items .after)) (m .free) in
     let k : Stack = mergeAbove (mergeBelow (record { shelves = record { before = w .shelf .before; this = loosened; after = w .shelf .after }; rows = m .rows })) in
-    record { limits = a .limits; shelves = back-onto (k .shelves .before) (k .shelves .this ∷ k .shelves .after); rows = k .rows }
+    record { limits = a .limits; shelves = backOnto (k .shelves .before) (k .shelves .this ∷ k .shelves .after); rows = k .rows }

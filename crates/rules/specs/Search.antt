@@ -1,13 +1,8 @@
 -- Where a request goes: document 01's walk of the shelf chain. Assumes nothing.
-use Prim.Native.Nat.{ℕ}
-use mathlib.Core.Bool.{Bool, true, false, not, _&&_, _||_}
-use mathlib.Core.List.{List, [], _∷_}
-use mathlib.Core.Option.{Option, none, some}
-use lib.Dec.{leb, ltb, eqb}
-use Rattle.numbers.specs.Pick.{pick}
-use Rattle.numbers.specs.Fit.{goodFitTo}
+use Rattle.numbers.specs.Library.{ℕ, Bool, true, false, not, _&&_, _||_, List, [], _∷_, Option, none, some, leb, ltb, eqb}
+use Rattle.numbers.specs.Prelude.{pick, goodFitTo}
 use Rattle.numbers.specs.declared.request.Asked.{Asked}
-use Rattle.chains.specs.Lists.{Focus}
+use Rattle.chains.specs.Prelude.{Focus}
 use Rattle.rules.specs.Atlas.{Item, Shelf, isEmpty}
 
 -- What the walk holds: a shelf where it stands in the chain, and a row of its free list.

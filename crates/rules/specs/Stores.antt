@@ -1,20 +1,10 @@
 -- How an atlas lies in a header and two tables: what each row says. The numbers after the used rows are spoken of nowhere. Assumes nothing.
-use Prim.Native.Nat.{ℕ}
-use mathlib.Core.Path.{_≡_}
-use mathlib.Core.Bool.{Bool, true, false}
-use mathlib.Core.List.{List, [], _∷_}
-use Rattle.numbers.specs.Pick.{pick}
-use Rattle.numbers.specs.Index.{noRow}
-use Rattle.rows.specs.Row.{rows, get}
-use Rattle.rows.specs.Item.{items}
-use Rattle.rows.specs.Shelf.{shelves}
-use Rattle.rows.specs.Pool.{freedShelfRow, freedItemRow}
-use Rattle.rows.specs.Views.{Body, Links, bodyOf, linksOf}
-use Rattle.rows.specs.declared.header.Header.{Header}
-use Rattle.rows.specs.declared.shelf.ShelfRow.{ShelfRow}
-use Rattle.rows.specs.declared.item.ItemRow.{ItemRow}
-use Rattle.chains.specs.Lists.{_∈_, Each, gather}
-use Rattle.chains.specs.Chain.{Kind, firstRow, firstOf, Chain}
+use Rattle.numbers.specs.Library.{ℕ, _≡_, Bool, true, false, List, [], _∷_}
+use Rattle.numbers.specs.Prelude.{pick, noRow}
+use Rattle.rows.specs.Prelude.{rows, get, items, shelves, Body, Links, bodyOf, linksOf}
+use Rattle.pool.specs.Pool.{freedShelfRow, freedItemRow}
+use Rattle.rows.specs.declared.{header.Header.Header, shelf.ShelfRow.ShelfRow, item.ItemRow.ItemRow}
+use Rattle.chains.specs.Prelude.{_∈_, Each, gather, Kind, firstRow, firstOf, Chain}
 use Rattle.rules.specs.Atlas.{Item, Shelf, Freed, Atlas, Room, isEmpty, occupied}
 
 abbrev pub flag : Bool → ℕ
@@ -77,12 +67,7 @@ pub record Holds (I : List ℕ) (s : Shelf) : Type 0 where
 unfoldable pub headerOf : Atlas → Header
 unfolding occupied
 headerOf a = record {
-  width = a .limits .width;
-  height = a .limits .height;
-  «align_width» = a .limits .«align_width»;
-  «align_height» = a .limits .«align_height»;
-  vertical = a .limits .vertical;
-  «shelf_width» = a .limits .«shelf_width»;
+  limits = a .limits;
   «used_shelves» = a .rows .shelves .used;
   «used_items» = a .rows .items .used;
   «free_items» = record { 0 = firstRow (λ (f : Freed). f .row) (a .rows .items .freed) };
@@ -90,7 +75,7 @@ headerOf a = record {
   occupied = occupied (a .shelves);
 }
 
-pub record Lies (h : Header) (S I : List ℕ) (a : Atlas) : Type 0 where
+pub record Stores (h : Header) (S I : List ℕ) (a : Atlas) : Type 0 where
   pub header : h ≡ headerOf a
   pub shelf-chain : Chain shelf (get shelves S) noRow (a .shelves)
   pub shelf-items : Each (Holds I) (a .shelves)

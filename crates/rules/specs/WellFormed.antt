@@ -1,18 +1,11 @@
 -- What an atlas keeps from call to call: its shelves fill the columns, its items fill the shelves, and every row serves once. Assumes nothing.
-use Prim.Native.Nat.{ℕ, _+_, _*_, _%_, _≤_, _<_}
-use mathlib.Core.Path.{_≡_}
-use mathlib.Core.Bool.{false, not, _&&_}
-use mathlib.Core.List.{List, [], _∷_}
-use lib.Dec.{eqb}
-use Rattle.numbers.specs.Pick.{pick}
-use Rattle.numbers.specs.Limits.{alongStep}
-use Rattle.rules.specs.Limits.{columns, WithinLimits}
+use Rattle.numbers.specs.Library.{ℕ, _+_, _*_, _%_, _≤_, _<_, _≡_, false, not, _&&_, List, [], _∷_, eqb}
+use Rattle.numbers.specs.Prelude.{pick, alongStep, columns, WithinLimits}
 use Rattle.numbers.specs.declared.limits.Limits.{Limits}
-use Rattle.chains.specs.Lists.{_∈_, _iff_, Distinct, Each, Neighbours, gather}
-use Rattle.chains.specs.Chain.{firstRow}
+use Rattle.chains.specs.Prelude.{_∈_, _iff_, Distinct, Each, Neighbours, gather, firstRow}
 use Rattle.rules.specs.Atlas.{Item, Shelf, Freed, Rows, Atlas, Room}
 use Rattle.rules.specs.Release.{joins}
-use Rattle.rules.specs.Lies.{freeRows}
+use Rattle.rules.specs.Stores.{freeRows}
 
 -- ---- shelves: columns at 0, S, 2S and so on to C of them; in each, depths run from 0 to H; no two empty shelves adjoin
 
@@ -89,6 +82,6 @@ pub record Shaped (a : Atlas) : Type 0 where
   pub free-apart : Each (λ s. Neighbours NotBothFree (s .items)) (a .shelves)
   pub all-listed : Each AllListed (a .shelves)
 
-pub record Keeps (room : Room) (a : Atlas) : Type 0 where
+pub record WellFormed (room : Room) (a : Atlas) : Type 0 where
   pub sound : Sound room a
   pub shaped : Shaped a
