@@ -1,1 +1,0 @@
-// What an atlas keeps is proved of the rules; there is no code.

@@ -1,1 +1,0 @@
-// Nothing is computed here: the crate holds proofs alone.
