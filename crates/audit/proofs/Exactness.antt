@@ -1,17 +1,17 @@
--- The five verdicts exclude one another: what the audit has decided where it gives one makes that one exact. Assumes nothing.
-use mathlib.Core.Path.{_≡_, refl, ap}
-use mathlib.Core.List.{List}
-use Prim.Native.Nat.{ℕ}
-use native.Mathlib.Omega.{arith}
+-- The five verdicts exclude one another: what the audit has decided where it gives one makes that one exact. And an exact verdict is a test of whether
+-- all rules hold. Assumes nothing.
+use Rattle.numbers.specs.Library.{_≡_, refl, ap, Bool, true, false, List, ℕ, arith}
 use Rattle.rows.specs.declared.header.Header.{Header}
-use Rattle.rules.specs.Audit.{Rule1, Rule2, Rule3}
-use Rattle.reading.proofs.Reading.{no-row-twice}
+use Rattle.numbers.specs.Prelude.{Decides, refuted}
+use Rattle.rules.specs.Prelude.{Rule1, Rule2, Rule3}
+use Rattle.rules.specs.Audit as rules
+use Rattle.laws.proofs.Stored.Reading.{no-row-twice}
 use Rattle.audit.specs.declared.Verdict.{Verdict}
 use Rattle.audit.specs.declared.Verdict.the-variants as says
-use Rattle.audit.specs.declared.items.Totals.{Totals}
-use Rattle.audit.specs.Counts.{AllCounts, ListsAgree}
+use Rattle.audit_counts.specs.declared.Totals.{Totals}
+use Rattle.audit_counts.specs.Counts.{AllCounts, ListsAgree}
 use Rattle.audit.specs.Verdicts.{Exact}
-use Rattle.audit.proofs.Agree.{agree-5, agree-6, agree-7, rules-agree}
+use Rattle.audit_counts.proofs.Agree.{agree-5, agree-6, agree-7, rules-agree}
 
 abbrev order : Verdict → ℕ
 order says.Passes = 0
@@ -79,3 +79,23 @@ module _ (h : Header) (S I : List ℕ) where
               rule3 = (differ says.Passes says.Rule3 (λ q. omega arith), λ p. absurd (p .2 three));
               rules5to7 = (differ says.Passes says.Rules5To7 (λ q. omega arith), λ p. absurd (p .3 (five, six, seven)));
             }
+
+-- ---- a verdict as a test
+
+abbrev isPasses : Verdict → Bool
+isPasses says.Passes = true
+isPasses says.Rule1 = false
+isPasses says.Rule2 = false
+isPasses says.Rule3 = false
+isPasses says.Rules5To7 = false
+
+tests : (h : Header) (S I : List ℕ) (v : Verdict) → Exact h S I v → Decides (isPasses v) (rules.Passes h S I)
+tests h S I says.Passes x = record { sound = λ e. x .passes .0 refl; complete = λ p. refl }
+tests h S I says.Rule1 x = refuted (λ p. differ says.Rule1 says.Passes (λ q. omega arith) (x .passes .1 p))
+tests h S I says.Rule2 x = refuted (λ p. differ says.Rule2 says.Passes (λ q. omega arith) (x .passes .1 p))
+tests h S I says.Rule3 x = refuted (λ p. differ says.Rule3 says.Passes (λ q. omega arith) (x .passes .1 p))
+tests h S I says.Rules5To7 x = refuted (λ p. differ says.Rules5To7 says.Passes (λ q. omega arith) (x .passes .1 p))
+
+-- in the arm of the match that found the verdict to be `w`
+pub tests-as : {h : Header} {S I : List ℕ} {v : Verdict} (w : Verdict) → v ≡ w → Exact h S I v → Decides (isPasses w) (rules.Passes h S I)
+tests-as {h} {S} {I} w e x = tests h S I w (rw e at x)

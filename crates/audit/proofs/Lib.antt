@@ -1,11 +1,2 @@
-pub mod Rows
-pub mod WithinLimits
-pub mod Sums
-pub mod ShelfTurns
-pub mod ListTurns
-pub mod ItemTurns
-pub mod TotalTurns
-pub mod FreedRows
-pub mod FreeLists
-pub mod Agree
 pub mod Exactness
+pub mod NeverRead

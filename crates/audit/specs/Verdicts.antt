@@ -1,10 +1,8 @@
 -- What the audit answers: that all of document 01's rules hold, or the first that fails. Assumes nothing.
-use Prim.Native.Nat.{ℕ}
-use mathlib.Core.Path.{_≡_, refl, sym}
-use mathlib.Core.List.{List}
+use Rattle.numbers.specs.Library.{ℕ, _≡_, refl, sym, List}
 use Rattle.rows.specs.declared.header.Header.{Header}
-use Rattle.chains.specs.Lists.{_iff_}
-use Rattle.rules.specs.Audit.{Rule1, Rule2, Rule3, Rule5, Rule6, Rule7}
+use Rattle.chains.specs.Prelude.{_iff_}
+use Rattle.rules.specs.Prelude.{Rule1, Rule2, Rule3, Rule5, Rule6, Rule7}
 use Rattle.rules.specs.Audit as rules
 use Rattle.audit.specs.declared.Verdict.{Verdict}
 use Rattle.audit.specs.declared.Verdict.the-variants as says

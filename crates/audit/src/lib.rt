@@ -1,14 +1,8 @@
 // The audit: whether any header and any two tables keep document 01's rules 1 to 7. It changes nothing, and needs no memory beside its locals.
-ghost use Rattle.numbers.specs.Decides.{Decides};
-ghost use Rattle.rules.specs.Audit.{Rule1, PassesForClear};
+ghost use Rattle.numbers.specs.Prelude.{Decides};
+ghost use Rattle.rules.specs.Prelude.{Rule1, Passes, PassesForClear};
 ghost use Rattle.audit.specs.Verdicts.{Exact};
-
-pub mod items;
-pub mod lists;
-pub mod shelves;
-
 use numbers::limits;
-use numbers::limits::Limits;
 use rows::header::Header;
 use rows::item;
 use rows::shelf;
@@ -32,14 +26,7 @@ pub fn header_right(h: Header, shelves: &[u16], items: &[u16]) -> bool
     if item::item_capacity(items) < h.used_items {
         return false;
     }
-    limits::within_limits(Limits {
-        width: h.width,
-        height: h.height,
-        align_width: h.align_width,
-        align_height: h.align_height,
-        vertical: h.vertical,
-        shelf_width: h.shelf_width,
-    })
+    limits::within_limits(h.limits)
 }
 
 // What clear asks: rule 1, and a row for each column in each table.
@@ -49,7 +36,7 @@ pub fn passes_for_clear(h: Header, shelves: &[u16], items: &[u16]) -> bool
     if !header_right(h, shelves, items) {
         return false;
     }
-    let columns = limits::columns(h.width, h.shelf_width);
+    let columns = limits::columns(h.limits);
     if shelf::shelf_capacity(shelves) < columns {
         return false;
     }
@@ -62,15 +49,28 @@ pub fn audit(h: Header, shelves: &[u16], items: &[u16]) -> Verdict
     if !header_right(h, shelves, items) {
         return Verdict::Rule1;
     }
-    if !shelves::shelves_right(h, shelves, items) {
+    if !audit_shelves::shelves_right(h, shelves, items) {
         return Verdict::Rule2;
     }
-    let t = items::all_items(h, shelves, items);
+    let t = audit_items::all_items(h, shelves, items);
     if !t.right {
         return Verdict::Rule3;
     }
-    if !lists::lists_agree(h, shelves, items, t) {
+    if !audit_lists::lists_agree(h, shelves, items, t) {
         return Verdict::Rules5To7;
     }
     Verdict::Passes
+}
+
+// The verdict as a test, for callers that ask no more.
+pub fn passes(h: Header, shelves: &[u16], items: &[u16]) -> bool
+    ensures { λ r. ⌜ Decides r (Passes h (now (shelves .entry)) (now (items .entry))) ⌝ }
+{
+    match audit(h, shelves, items) {
+        Verdict::Passes => true,
+        Verdict::Rule1 => false,
+        Verdict::Rule2 => false,
+        Verdict::Rule3 => false,
+        Verdict::Rules5To7 => false,
+    }
 }

@@ -1,30 +1,18 @@
 -- `header_right`: the capacities, then the limits. Assumes nothing.
-use native.Mathlib.Omega.{arith}
-use Rattle.rules.specs.Audit.{limitsOf}
-use Rattle.numbers.specs.Decides.{refuted}
-use Rattle.audit.proofs.WithinLimits.{within-decides}
+use Rattle.numbers.specs.Library.{arith}
+use Rattle.numbers.specs.Prelude.{refuted}
 use Rattle.audit.proofs.header_right.Statement.{statement}
 use Rattle.audit.proofs.header_right.Tie as tie
 
-shelf-capacity-requires : tie.Need-shelf-capacity-requires
-shelf-capacity-requires c κs = tt
+few-shelves : tie.Need-returns
+few-shelves c = refuted (λ o. omega (arith, c .before .before .shelf-capacity .ensures, o .shelves-fit))
 
-returns : tie.Need-returns
-returns c = refuted (λ o. omega (arith, c .before .before .shelf-capacity .ensures, o .shelves-fit))
+few-items : tie.Need-returns-2
+few-items c = refuted (λ o. omega (arith, c .before .before .item-capacity .ensures, o .items-fit))
 
-item-capacity-requires : tie.Need-item-capacity-requires
-item-capacity-requires c κs = tt
-
-returns-2 : tie.Need-returns-2
-returns-2 c = refuted (λ o. omega (arith, c .before .before .item-capacity .ensures, o .items-fit))
-
-within-limits-requires : tie.Need-within-limits-requires
-within-limits-requires c κs = tt
-
-returns-3 : tie.Need-returns-3
-unfolding limitsOf
-returns-3 c =
-    let w = within-decides _ _ (c .within-limits .ensures) in
+within : tie.Need-returns-3
+within c =
+    let w = c .within-limits .ensures in
     record {
       sound = λ e. record {
         limits = w .sound e;
@@ -38,9 +26,9 @@ pub header-right-spec : {M : Type 1} → statement M
 header-right-spec =
     tie.close
     (tie.spec
-    shelf-capacity-requires
-    returns
-    item-capacity-requires
-    returns-2
-    within-limits-requires
-    returns-3)
+    (λ c κs. tt)
+    few-shelves
+    (λ c κs. tt)
+    few-items
+    (λ c κs. tt)
+    within)

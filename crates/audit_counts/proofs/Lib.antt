@@ -1,0 +1,7 @@
+pub mod Sums
+pub mod ListTurns
+pub mod ItemTurns
+pub mod TotalTurns
+pub mod FreedRows
+pub mod FreeLists
+pub mod Agree
