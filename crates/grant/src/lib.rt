@@ -1,26 +1,27 @@
 // An item granted: shelf and item are split where they are large enough. The rows have to suffice.
 ghost use mathlib.Core.Path.{_≡_};
-ghost use Rattle.steps.specs.State.{state, Are};
-ghost use Rattle.steps.specs.Grant.{fitShelf, useShelf, takePart, takeWhole, takeItem, occupied, grantAt, grantedAt};
+ghost use Rattle.shelf_edits.specs.State.{state, Are};
+ghost use Rattle.grant.specs.Grant.{fitShelf, useShelf, takePart, takeWhole, takeItem, withAreaAdded, grantAt, grantedAt};
 use numbers::index::ItemIndex;
 use numbers::index::ShelfIndex;
 use numbers::request::Asked;
 use rows::header::Header;
 use rows::item;
+use rows::live::Live;
 use rows::shelf;
-use search::live;
-use search::spare;
-use steps::grants::Granted;
-use steps::item_edits;
-use steps::places::Place;
-use steps::shelf_edits;
-use steps::wrap;
+use search::Place;
+
+// What is told of a grant, and the header after it.
+pub struct Granted {
+    pub live: Live,
+    pub header: Header,
+}
 
 // An empty shelf that is deep enough is split.
 pub fn fit_shelf(
+    h: Header,
     shelves: &mut [u16],
     items: &mut [u16],
-    h: Header,
     at: ShelfIndex,
     asked: Asked,
 ) -> Header
@@ -28,7 +29,7 @@ pub fn fit_shelf(
 {
     let s = shelf::get_shelf(shelves, at);
     if spare::splits_shelf(asked, s) {
-        return shelf_edits::split_shelf(shelves, items, h, at, asked.depth);
+        return shelf_edits::split_shelf(h, shelves, items, at, asked.depth);
     }
     h
 }
@@ -44,16 +45,16 @@ pub fn use_shelf(shelves: &mut [u16], at: ShelfIndex, item: ItemIndex, new: Item
 
 // The left part of the item is granted; the rest takes its place in the free list.
 pub fn take_part(
+    h: Header,
     shelves: &mut [u16],
     items: &mut [u16],
-    h: Header,
     at: ShelfIndex,
     item: ItemIndex,
     width: u16,
 ) -> Header
     ensures { λ r. ⌜ Are (takePart (state h (now (shelves .entry)) (now (items .entry))) at item width) r (now (shelves .exit)) (now (items .exit)) ⌝ }
 {
-    let added = item_edits::split_item(items, h, item, width);
+    let added = item_edits::split_item(h, items, item, width);
     let new = added.idx;
     item_edits::relist(items, item, new);
     item_edits::mark_live(items, item);
@@ -63,9 +64,9 @@ pub fn take_part(
 
 // The whole item is granted.
 pub fn take_whole(
+    h: Header,
     shelves: &mut [u16],
     items: &mut [u16],
-    h: Header,
     at: ShelfIndex,
     item: ItemIndex,
 ) -> Header
@@ -81,9 +82,9 @@ pub fn take_whole(
 
 // An item that is wide enough is split.
 pub fn take_item(
+    h: Header,
     shelves: &mut [u16],
     items: &mut [u16],
-    h: Header,
     at: ShelfIndex,
     item: ItemIndex,
     asked: Asked,
@@ -92,25 +93,25 @@ pub fn take_item(
 {
     let i = item::get_item(items, item);
     if spare::splits_item(asked, i) {
-        return take_part(shelves, items, h, at, item, asked.width);
+        return take_part(h, shelves, items, at, item, asked.width);
     }
-    take_whole(shelves, items, h, at, item)
+    take_whole(h, shelves, items, at, item)
 }
 
-// The item's area is occupied.
-pub fn occupy(shelves: &[u16], items: &[u16], h: Header, item: ItemIndex) -> Header
-    ensures { λ r. ⌜ r ≡ occupied (state h (now (shelves .entry)) (now (items .entry))) item ⌝ }
+// So much more is occupied.
+fn occupy(h: Header, area: u32) -> Header
+    ensures { λ r. ⌜ r ≡ withAreaAdded h area ⌝ }
 {
     let mut header = h;
-    header.occupied = wrap::add_u32(h.occupied, live::area_at(shelves, items, item));
+    header.occupied = wrap::add_u32(h.occupied, area);
     header
 }
 
 // The grant at a place that the search holds, and what is told of it.
 pub fn grant_at(
+    h: Header,
     shelves: &mut [u16],
     items: &mut [u16],
-    h: Header,
     p: Place,
     asked: Asked,
 ) -> Granted
@@ -120,9 +121,12 @@ pub fn grant_at(
 {
     let on = p.shelf;
     let at = p.item;
-    let fitted = fit_shelf(shelves, items, h, on, asked);
-    let taken = take_item(shelves, items, fitted, on, at, asked);
-    let header = occupy(shelves, items, taken, at);
-    let live = live::live_at(shelves, items, header, at.0);
+    let fitted = fit_shelf(h, shelves, items, on, asked);
+    let taken = take_item(fitted, shelves, items, on, at, asked);
+    let i = item::get_item(items, at);
+    let of = i.shelf;
+    let s = shelf::get_shelf(shelves, of);
+    let header = occupy(taken, wrap::area(i.width, s.height));
+    let live = live::live_of_rows(header, s, i, at.0);
     Granted { live, header }
 }

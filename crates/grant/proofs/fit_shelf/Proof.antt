@@ -1,6 +1,5 @@
-use borrow.Author.Needs.{needs}
-use mathlib.Core.Path.{refl}
-use Rattle.steps.specs.Grant.{fitShelf}
+use Rattle.numbers.specs.Library.{needs, refl}
+use Rattle.grant.specs.Grant.{fitShelf}
 use Rattle.grant.proofs.fit_shelf.Statement.{statement}
 use Rattle.grant.proofs.fit_shelf.Tie as tie
 

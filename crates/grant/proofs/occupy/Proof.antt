@@ -1,14 +1,13 @@
-use borrow.Author.Needs.{needs}
-use Rattle.rows.specs.Header.{withOccupied}
-use Rattle.steps.specs.Grant.{occupied}
+use Rattle.numbers.specs.Library.{needs}
+use Rattle.rows.specs.Prelude.{withOccupied}
+use Rattle.grant.specs.Grant.{withAreaAdded}
 use Rattle.grant.proofs.occupy.Statement.{statement}
 use Rattle.grant.proofs.occupy.Tie as tie
 
 pub occupy-spec : {M : Type 1} → statement M
-unfolding withOccupied occupied
+unfolding withOccupied withAreaAdded
 occupy-spec =
     tie.close
     (tie.spec
     (λ c κs. search needs)
-    (λ c κs. search needs)
-    (λ c. rw (c .add-u32 .ensures, c .before .area-at .ensures)))
+    (λ c. rw (c .add-u32 .ensures)))

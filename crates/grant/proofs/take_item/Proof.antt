@@ -1,5 +1,5 @@
-use borrow.Author.Needs.{needs}
-use Rattle.steps.specs.Grant.{takeItem}
+use Rattle.numbers.specs.Library.{needs}
+use Rattle.grant.specs.Grant.{takeItem}
 use Rattle.grant.proofs.take_item.Statement.{statement}
 use Rattle.grant.proofs.take_item.Tie as tie
 

@@ -1,6 +1,6 @@
-use borrow.Author.Needs.{needs}
-use Rattle.rows.specs.Pool.{addedItem}
-use Rattle.steps.specs.Grant.{takePartItems, takePart}
+use Rattle.numbers.specs.Library.{needs}
+use Rattle.pool.specs.Pool.{addedItem}
+use Rattle.grant.specs.Grant.{takePartItems, takePart}
 use Rattle.grant.proofs.take_part.Statement.{statement}
 use Rattle.grant.proofs.take_part.Tie as tie
 

@@ -1,6 +1,5 @@
-use borrow.Author.Needs.{needs}
-use mathlib.Core.Path.{refl}
-use Rattle.steps.specs.Grant.{takeWholeItems, takeWhole}
+use Rattle.numbers.specs.Library.{needs, refl}
+use Rattle.grant.specs.Grant.{takeWholeItems, takeWhole}
 use Rattle.grant.proofs.take_whole.Statement.{statement}
 use Rattle.grant.proofs.take_whole.Tie as tie
 

@@ -1,5 +1,5 @@
-use borrow.Author.Needs.{needs}
-use Rattle.steps.specs.Grant.{useShelf}
+use Rattle.numbers.specs.Library.{needs}
+use Rattle.grant.specs.Grant.{useShelf}
 use Rattle.grant.proofs.use_shelf.Statement.{statement}
 use Rattle.grant.proofs.use_shelf.Tie as tie
 

@@ -1,0 +1,20 @@
+use Rattle.numbers.specs.Library.{needs}
+use Rattle.item_edits.specs.ItemEdits.{joinNext}
+use Rattle.item_edits.proofs.join_next.Statement.{statement}
+use Rattle.item_edits.proofs.join_next.Tie as tie
+
+pub join-next-spec : {M : Type 1} → statement M
+unfolding joinNext
+join-next-spec =
+    tie.close
+    (tie.spec
+    (λ c κs. search needs)
+    (λ c κs. search needs)
+    (λ c κs. search needs)
+    (λ c κs. search needs)
+    (λ c κs. search needs)
+    (λ c κs. search needs)
+    (λ c. search needs)
+    (λ c.
+    let r = c .before .before in let p = r .before .before .before .before in let n = p .before .before .before .before in let a = n .before in let s = a .before .before .before in let g = s .before .before .before in
+    (rw (r .remove-item .ensures .0, g .get-item .ensures), rw (r .remove-item .ensures .1, p .set-prev .ensures, n .set-span .ensures, a .add-u16 .ensures, s .get-item2 .ensures, g .get-item .ensures))))

@@ -1,0 +1,92 @@
+// A live item released: merged with its free neighbours, and an emptied shelf with its empty ones.
+ghost use mathlib.Core.Path.{_≡_};
+ghost use Rattle.shelf_edits.specs.State.{state, Are};
+ghost use Rattle.merge.specs.Merge.{joins, mergeBelow, mergeAbove, withAreaRemoved, releaseItem, releaseAt};
+use numbers::index::ItemIndex;
+use numbers::index::ShelfIndex;
+use rows::header::Header;
+use rows::item;
+use rows::shelf;
+
+// ---- shelves
+
+// Two empty shelves of one column.
+fn joins(shelves: &[u16], above: ShelfIndex, at: ShelfIndex) -> bool
+    ensures { λ r. ⌜ r ≡ joins (now (shelves .entry)) above at ⌝ }
+{
+    let a = shelf::get_shelf(shelves, above);
+    let s = shelf::get_shelf(shelves, at);
+    if a.is_empty != 1 {
+        return false;
+    }
+    if s.is_empty != 1 {
+        return false;
+    }
+    a.x == s.x
+}
+
+// An empty next shelf of the same column is merged into an empty one.
+pub fn merge_below(h: Header, shelves: &mut [u16], items: &mut [u16], at: ShelfIndex) -> Header
+    ensures { λ r. ⌜ Are (mergeBelow (state h (now (shelves .entry)) (now (items .entry))) at) r (now (shelves .exit)) (now (items .exit)) ⌝ }
+{
+    let s = shelf::get_shelf(shelves, at);
+    let next = s.next;
+    if joins(shelves, at, next) {
+        return shelf_edits::merge_shelves(h, shelves, items, at, next);
+    }
+    h
+}
+
+// An empty shelf is merged into an empty previous one of its column.
+pub fn merge_above(h: Header, shelves: &mut [u16], items: &mut [u16], at: ShelfIndex) -> Header
+    ensures { λ r. ⌜ Are (mergeAbove (state h (now (shelves .entry)) (now (items .entry))) at) r (now (shelves .exit)) (now (items .exit)) ⌝ }
+{
+    let s = shelf::get_shelf(shelves, at);
+    let prev = s.prev;
+    if joins(shelves, prev, at) {
+        return shelf_edits::merge_shelves(h, shelves, items, prev, at);
+    }
+    h
+}
+
+// ---- a release
+
+// So much less is occupied.
+fn vacate(h: Header, area: u32) -> Header
+    ensures { λ r. ⌜ r ≡ withAreaRemoved h area ⌝ }
+{
+    let mut header = h;
+    header.occupied = wrap::sub_u32(h.occupied, area);
+    header
+}
+
+// The item in row `at` of the shelf `on` is released, as far as that shelf goes.
+pub fn release_item(
+    h: Header,
+    shelves: &mut [u16],
+    items: &mut [u16],
+    on: ShelfIndex,
+    at: ItemIndex,
+) -> Header
+    ensures { λ r. ⌜ Are (releaseItem (state h (now (shelves .entry)) (now (items .entry))) on at) r (now (shelves .exit)) (now (items .exit)) ⌝ }
+{
+    let s = shelf::get_shelf(shelves, on);
+    let first = s.first_unallocated;
+    let front = s.first_item;
+    let less = vacate(h, live::area_at(shelves, items, at));
+    let m = merge_items::loosen(less, items, first, at);
+    let free = m.first;
+    shelf_edits::set_free(shelves, on, free, merge_items::empty_flag(items, front));
+    m.header
+}
+
+// The live item in row `at` is released.
+pub fn release_at(h: Header, shelves: &mut [u16], items: &mut [u16], at: ItemIndex) -> Header
+    ensures { λ r. ⌜ Are (releaseAt (state h (now (shelves .entry)) (now (items .entry))) at) r (now (shelves .exit)) (now (items .exit)) ⌝ }
+{
+    let i = item::get_item(items, at);
+    let on = i.shelf;
+    let released = release_item(h, shelves, items, on, at);
+    let merged = merge_below(released, shelves, items, on);
+    merge_above(merged, shelves, items, on)
+}

@@ -1,0 +1,20 @@
+use Rattle.numbers.specs.Library.{needs}
+use Rattle.merge_items.specs.MergeItems.{loosen}
+use Rattle.merge_items.proofs.loosen.Statement.{statement}
+use Rattle.merge_items.proofs.loosen.Tie as tie
+
+pub loosen-spec : {M : Type 1} → statement M
+unfolding loosen
+loosen-spec =
+    tie.close
+    (tie.spec
+    (λ c κs. search needs)
+    (λ c κs. search needs)
+    (λ c κs. search needs)
+    (λ c. search needs)
+    (λ c. let i = c .before .before in let n = i .before .before .before .before .before .before in let k = n .before .before .before .before in
+    record {
+      header = rw (i .merge-into .ensures .header, n .merge-next .ensures .header, n .merge-next .ensures .first, n .merge-next .ensures .items, k .mark-free .ensures);
+      first = rw (i .merge-into .ensures .first, n .merge-next .ensures .header, n .merge-next .ensures .first, n .merge-next .ensures .items, k .mark-free .ensures);
+      items = rw (i .merge-into .ensures .items, n .merge-next .ensures .header, n .merge-next .ensures .first, n .merge-next .ensures .items, k .mark-free .ensures);
+    }))
