@@ -1,31 +1,19 @@
 -- What the calls answer that change nothing: look-up, list, totals, size and is_empty, and the refusals of a release. Assumes nothing.
-use Prim.Native.Nat.{ℕ, zero, suc, _+_, _-_, _*_, _≤_, _<_}
-use mathlib.Core.Path.{_≡_, refl, sym, ap, _∙_}
-use mathlib.Core.Bool.{Bool, true, false, not, _&&_, false≢true}
-use mathlib.Core.Option.{Option, none, some}
-use mathlib.Core.List.{List, [], _∷_}
-use native.Mathlib.Omega.{arith}
-use native.Mathlib.Nat.{mul-le-mul}
-use lib.Dec.{eqb}
-use borrow.Author.Tests.{ne-eqb}
-use Rattle.numbers.specs.Pick.{pick}
+use Rattle.numbers.specs.Library.{ℕ, zero, suc, _+_, _*_, _≤_, _<_, _≡_, refl, sym, ap, _∙_, Bool, true, false, not, _&&_, false≢true, Option, none, some, List}
+use Rattle.numbers.specs.Library.{[], _∷_, arith, mul-le-mul, eqb, ne-eqb}
+use Rattle.numbers.specs.Prelude.{pick, firstAxis, secondAxis, spaceLeft}
 use Rattle.numbers.specs.declared.limits.Limits.{Limits}
 use Rattle.rows.specs.declared.header.Header.{Header}
-use Rattle.chains.specs.Lists.{Each, Neighbours}
-use Rattle.rules.specs.Limits.{xOf, yOf}
-use Rattle.rules.specs.Atlas.{Item, Shelf, Atlas, isEmpty, liveArea, occupied}
-use Rattle.rules.specs.Release.{Found, findLive}
-use Rattle.rules.specs.Calls.{release, lookUp, list, freeSpace, sizeX, sizeY, allEmpty}
-use Rattle.rules.specs.Lies.{headerOf}
-use Rattle.rules.specs.Keeps.{Filled, NotBothFree}
-use Rattle.rules.specs.Audit.{limitsOf, atlasIn, Passes}
-use Rattle.reading.proofs.Reading.{reads, keeps}
-use Rattle.keeps.proofs.Finding.{FoundAt}
-use Rattle.keeps.proofs.Columns.{Placed, stacked-placed}
-use Rattle.steps.specs.Live.{isLive, liveAt, isVacant}
-use Rattle.finding.proofs.Looking.{told, LiveSays, live-says}
-use Rattle.finding.proofs.Listing.{list-says, rowsListed}
-use Rattle.opening.proofs.Bounds.{occupied-within}
+use Rattle.chains.specs.Prelude.{Each, Neighbours}
+use Rattle.rules.specs.Prelude.{Item, Shelf, Atlas, isEmpty, liveArea, occupied, Found, findLive, refused, gives, release, lookUp, list, freeSpace, sizeX}
+use Rattle.rules.specs.Prelude.{sizeY, allEmpty, headerOf, Filled, NotBothFree, atlasIn, Passes}
+use Rattle.laws.proofs.Stored.Reading.{reads, formed}
+use Rattle.laws.proofs.Shape.Finding.{FoundAt}
+use Rattle.laws.proofs.Shape.Columns.{Placed, stacked-placed}
+use Rattle.live.specs.Live.{isLive, liveAt, isVacant, rowsListed}
+use Rattle.bridge.proofs.Search.Looking.{told, LiveSays, live-says}
+use Rattle.bridge.proofs.Search.Listing.{list-says}
+use Rattle.bridge.proofs.Items.Bounds.{occupied-within}
 
 -- ---- an id that names a live item, and one that names none
 
@@ -33,41 +21,41 @@ module _ (h : Header) (S I : List ℕ) (p : Passes h S I) (row generation : ℕ)
   abbrev a : Atlas
   a = atlasIn h S I
 
-  says : LiveSays h S I a (reads h S I p) (keeps h S I p) row generation (findLive a row generation)
-  says = live-says h S I a (reads h S I p) (keeps h S I p) row generation
+  says : LiveSays h S I a (reads h S I p) (formed h S I p) row generation (findLive a row generation)
+  says = live-says h S I a (reads h S I p) (formed h S I p) row generation
 
-  pub finds-none : isLive I h row generation ≡ false → findLive a row generation ≡ none
+  pub finds-none : isLive h I row generation ≡ false → findLive a row generation ≡ none
   finds-none e = go (findLive a row generation) says where
-    go : (o : Option Found) → LiveSays h S I a (reads h S I p) (keeps h S I p) row generation o → o ≡ none
+    go : (o : Option Found) → LiveSays h S I a (reads h S I p) (formed h S I p) row generation o → o ≡ none
     go none s = refl
     go (some w) s = absurd (false≢true (sym e ∙ s .0))
 
   -- the item, and where it stands
-  pub finds-live : isLive I h row generation ≡ true
+  pub finds-live : isLive h I row generation ≡ true
       → (w : Found) × (findLive a row generation ≡ some w) × FoundAt row (a .shelves) (a .shelves) (some w) × (w .item .this .live ≡ true)
   finds-live e = go (findLive a row generation) refl says where
-    go : (o : Option Found) → findLive a row generation ≡ o → LiveSays h S I a (reads h S I p) (keeps h S I p) row generation o
+    go : (o : Option Found) → findLive a row generation ≡ o → LiveSays h S I a (reads h S I p) (formed h S I p) row generation o
         → (w : Found) × (findLive a row generation ≡ some w) × FoundAt row (a .shelves) (a .shelves) (some w) × (w .item .this .live ≡ true)
     go none f s = absurd (false≢true (sym s ∙ e))
     go (some w) f s = (w, f, s .1, s .2)
 
-  pub release-none : isLive I h row generation ≡ false → release a row generation ≡ none
+  pub release-none : isLive h I row generation ≡ false → release a row generation ≡ refused 8
   unfolding release
   release-none e = rw (finds-none e, release)
 
-  pub look-none : isLive I h row generation ≡ false → lookUp a row generation ≡ none
+  pub look-none : isLive h I row generation ≡ false → lookUp a row generation ≡ refused 8
   unfolding lookUp
   look-none e = rw (finds-none e, lookUp)
 
-  pub look-some : isLive I h row generation ≡ true → lookUp a row generation ≡ some (liveAt S I h row)
+  pub look-some : isLive h I row generation ≡ true → lookUp a row generation ≡ gives (liveAt h S I row)
   unfolding lookUp
   look-some e =
       let (w, f, found, live) = finds-live e in
-      rw (f, lookUp, told h S I a (reads h S I p) (keeps h S I p) w row found)
+      rw (f, lookUp, told h S I a (reads h S I p) (formed h S I p) w row found)
 
 module _ (h : Header) (S I : List ℕ) (p : Passes h S I) where
   pub list-is : list (atlasIn h S I) ≡ rowsListed h S I (h .«used_items»)
-  list-is = list-says h S I (atlasIn h S I) (reads h S I p) (keeps h S I p)
+  list-is = list-says h S I (atlasIn h S I) (reads h S I p) (formed h S I p)
 
   -- ---- totals
 
@@ -75,22 +63,22 @@ module _ (h : Header) (S I : List ℕ) (p : Passes h S I) where
   unfolding headerOf
   occupied-is = sym (ap (λ (q : Header). q .occupied) (reads h S I p .header))
 
-  pub occupied-fits : h .occupied ≤ h .width * h .height
-  unfolding atlasIn limitsOf
+  pub occupied-fits : h .occupied ≤ h .limits .width * h .limits .height
+  unfolding atlasIn
   occupied-fits =
-      let k = keeps h S I p .shaped in
+      let k = formed h S I p .shaped in
       omega (arith, occupied-is, occupied-within (atlasIn h S I .limits) (k .limits) (atlasIn h S I .shelves) (k .stacked) (k .filled))
 
-  pub free-is : freeSpace (atlasIn h S I) ≡ h .width * h .height - h .occupied
-  unfolding freeSpace atlasIn limitsOf
-  free-is = ap (λ (n : ℕ). h .width * h .height - n) occupied-is
+  pub free-is : freeSpace (atlasIn h S I) ≡ spaceLeft (h .limits) (h .occupied)
+  unfolding freeSpace atlasIn
+  free-is = ap (λ (n : ℕ). spaceLeft (h .limits) n) occupied-is
 
-  pub size-x-is : sizeX (atlasIn h S I) ≡ pick (eqb (h .vertical) 1) (h .height) (h .width)
-  unfolding sizeX xOf atlasIn limitsOf
+  pub size-x-is : sizeX (atlasIn h S I) ≡ pick (eqb (h .limits .vertical) 1) (h .limits .height) (h .limits .width)
+  unfolding sizeX firstAxis atlasIn
   size-x-is = refl
 
-  pub size-y-is : sizeY (atlasIn h S I) ≡ pick (eqb (h .vertical) 1) (h .width) (h .height)
-  unfolding sizeY yOf atlasIn limitsOf
+  pub size-y-is : sizeY (atlasIn h S I) ≡ pick (eqb (h .limits .vertical) 1) (h .limits .width) (h .limits .height)
+  unfolding sizeY secondAxis atlasIn
   size-y-is = refl
 
 -- ---- an atlas is empty exactly when nothing is occupied
@@ -134,6 +122,6 @@ all-empty l wide (s ∷ ss) p f n =
 pub empty-is : (h : Header) (S I : List ℕ) (p : Passes h S I) → allEmpty (atlasIn h S I .shelves) ≡ isVacant h
 unfolding isVacant
 empty-is h S I p =
-    let k = keeps h S I p .shaped in
+    let k = formed h S I p .shaped in
     all-empty (atlasIn h S I .limits) (k .limits .S-least) (atlasIn h S I .shelves) (stacked-placed (atlasIn h S I .limits) 0 0 (atlasIn h S I .shelves) (k .stacked)) (k .filled) (k .free-apart)
     ∙ ap (λ (n : ℕ). eqb n 0) (occupied-is h S I p)

@@ -1,13 +1,9 @@
 -- What the merges of a release do to the rows in use and to the depth of the shelf that is left. Assumes nothing.
-use Prim.Native.Nat.{ℕ, _+_, _≤_}
-use mathlib.Core.Path.{_≡_, refl, sym, ap, _∙_}
-use mathlib.Core.Bool.{true, false, false≢true}
-use mathlib.Core.List.{List, [], _∷_}
-use native.Mathlib.Omega.{arith}
-use Rattle.rules.specs.Atlas.{Item, Shelf, Rows}
-use Rattle.rules.specs.Release.{Loose, Stack, freeing, freeItemRow, freeShelfRow, freeShelf, deeper, joins, mergeNext, mergeInto, mergeBelow, mergeAbove}
-use Rattle.keeps.proofs.Merging.{next-cases, into-cases, below-cases, above-cases}
-use Rattle.stacking.proofs.Merging.{LowBelow, LowAbove}
+use Rattle.numbers.specs.Library.{ℕ, _+_, _≤_, _≡_, refl, sym, ap, _∙_, true, false, false≢true, List, [], _∷_, arith}
+use Rattle.rules.specs.Prelude.{Item, Shelf, Rows, Loose, Stack, freeing, freeItemRow, freeShelfRow, freeShelf, deeper, joins, mergeNext, mergeInto, mergeBelow}
+use Rattle.rules.specs.Prelude.{mergeAbove}
+use Rattle.laws.proofs.Shape.Merging.{next-cases, into-cases, below-cases, above-cases}
+use Rattle.bridge.proofs.Shelves.Merging.{LowBelow, LowAbove}
 
 -- ---- no merge changes how many rows are in use
 

@@ -1,45 +1,33 @@
 -- A grant, whole: what it leaves in header and tables is the atlas that the rules make, and its answer is the rules' answer. Assumes nothing.
-use Prim.Native.Nat.{ℕ, _+_, _-_, _≤_, _<_}
-use mathlib.Core.Path.{_≡_, refl, ap, _∙_, subst}
-use mathlib.Core.Bool.{Bool, true, false, _||_}
-use mathlib.Core.List.{List, [], _∷_}
+use Rattle.numbers.specs.Library.{ℕ, _+_, _-_, _≤_, _<_, _≡_, refl, ap, _∙_, subst, Bool, true, false, _||_, List, [], _∷_, arith, ltb, length, ltb-false}
 use native.Mathlib.Nat.{mul-le-mul-left}
-use native.Mathlib.Omega.{arith}
-use lib.Dec.{ltb}
-use lib.ListN.{length}
-use borrow.Author.Tests.{ltb-false}
 use Rattle.numbers.specs.declared.request.Asked.{Asked}
-use Rattle.chains.specs.Lists.{_∈_, Each, Focus, back-onto}
-use Rattle.chains.proofs.Chains.{each-split, each-join}
-use Rattle.rows.specs.Row.{rows, get, rows-are}
-use Rattle.rows.specs.Item.{items}
-use Rattle.rows.specs.Shelf.{shelves}
-use Rattle.rows.specs.Header.{withUsedItems, withUsedShelves, withFreeItems, withFreeShelves}
-use Rattle.rows.specs.Pool.{itemTaken as itemTakenAt, shelfTaken as shelfTakenAt}
+use Rattle.numbers.specs.Prelude.{Placeable, mostArea}
+use Rattle.chains.specs.Prelude.{_∈_, Each, Focus, backOnto}
+use Rattle.chains.proofs.Prelude.{each-split, each-join}
+use Rattle.rows.specs.Prelude.{rows, get, rows-long, items, shelves, withUsedItems, withUsedShelves, withFreeItems, withFreeShelves}
+use Rattle.pool.specs.Pool.{itemTaken as itemTakenAt, shelfTaken as shelfTakenAt}
 use Rattle.rows.specs.declared.header.Header.{Header}
-use Rattle.rules.specs.Limits.{WithinAtlas}
-use Rattle.rules.specs.Atlas.{Item, Shelf, Pool, Rows, Atlas, Room, occupied}
-use Rattle.rules.specs.Grant.{taken, rowsLeft, count, tooFewRows, splitsShelf, splitsItem, upperPart, lowerPart, shelfTaken, itemTaken, liveOf, grants, place, placeIn, grant}
-use Rattle.rules.specs.Lies.{Lies, headerOf, roomIn}
-use Rattle.rules.specs.Keeps.{AllListed, Shaped, Keeps}
-use Rattle.keeps.proofs.Around.{pick-cases}
-use Rattle.keeps.proofs.Kept.{grant-shaped}
-use Rattle.steps.specs.State.{State, state}
-use Rattle.steps.specs.Live.{atRow, liveAt}
-use Rattle.steps.specs.ShelfEdits.{splitShelf}
-use Rattle.steps.specs.Spare.{hasRows, splitsShelf as splitsRow}
-use Rattle.steps.specs.Grant.{fitShelf, takeItem, grantAt, grantedAt}
-use Rattle.steps.specs.declared.places.Place.{Place}
-use Rattle.finding.proofs.Narrow.{shaped-narrow, shelf-narrow}
-use Rattle.finding.proofs.Looking.{told}
-use Rattle.opening.proofs.Standing.{Stands, widths, NarrowShelf, onRow}
-use Rattle.opening.proofs.Frames.{focus-of}
-use Rattle.opening.proofs.Granting.{occupy}
-use Rattle.opening.proofs.Placing.{place-stands}
-use Rattle.stacking.proofs.Past.{Past}
-use Rattle.stacking.proofs.Leads.{Leads, leads-same, leads-then}
-use Rattle.stacking.proofs.Fitting.{fit-whole, fit-split}
-use Rattle.bridge.specs.After.{Becomes}
+use Rattle.rules.specs.Prelude.{Item, Shelf, Pool, Rows, Atlas, Room, occupied, taken, rowsLeft, tooFewRows, splitsShelf, splitsItem, upperPart, lowerPart}
+use Rattle.rules.specs.Prelude.{shelfTaken, itemTaken, liveOf, grants, grantItem, grantInShelf, grant, Stores, headerOf, roomIn, AllListed, Shaped, WellFormed}
+use Rattle.rules.specs.Prelude.{Becomes}
+use Rattle.rules.specs.Grant.{count}
+use Rattle.laws.proofs.Shape.Around.{pick-cases}
+use Rattle.laws.proofs.Shape.Kept.{grant-shaped}
+use Rattle.shelf_edits.specs.State.{State, state}
+use Rattle.live.specs.Live.{atRow, liveAt}
+use Rattle.shelf_edits.specs.ShelfEdits.{splitShelf}
+use Rattle.spare.specs.Spare.{hasRows, splitsShelf as splitsRow}
+use Rattle.grant.specs.Grant.{fitShelf, takeItem, grantAt, grantedAt}
+use Rattle.search.specs.declared.Place.{Place}
+use Rattle.bridge.proofs.Search.Narrow.{shaped-narrow, shelf-narrow}
+use Rattle.bridge.proofs.Search.Looking.{told}
+use Rattle.bridge.proofs.Items.Standing.{Stands, widths, NarrowShelf, onRow}
+use Rattle.bridge.proofs.Items.Frames.{focus-of}
+use Rattle.bridge.proofs.Items.Granting.{occupy}
+use Rattle.bridge.proofs.Items.Placing.{place-stands}
+use Rattle.bridge.proofs.Shelves.Leads.{Leads, leads-same, leads-then}
+use Rattle.bridge.proofs.Shelves.Fitting.{fit-whole, fit-split}
 use Rattle.bridge.proofs.Outcome.{becomes}
 use Rattle.bridge.proofs.Held.{PlaceHeld, rows-suffice}
 use Rattle.bridge.proofs.Placed.{before-grant, Placement, placement}
@@ -64,10 +52,6 @@ left-after {E} room p = go (p .used) (p .freed) where
   go used [] b = omega arith
   go used (f ∷ freed) b = omega arith
 
--- a table as long as another has as many rows
-as-many : {n : ℕ} {l t : List ℕ} → Past items n l t → rows items t ≡ rows items l
-as-many {n} {l} {t} p = rw (rows-are items t, rows-are items l, p .as-long)
-
 -- a shelf's upper part is no wider and no deeper than it
 upper-narrow : (s : Shelf) (d : ℕ) → d ≤ s .depth → NarrowShelf s → NarrowShelf (upperPart d s)
 unfolding upperPart
@@ -82,8 +66,8 @@ fit-occupied st on q =
 -- ---- the item granted in a state that the shelf's split, or nothing, led to
 
 module _ (st mid : State) (a : Atlas) (f : Focus Shelf) (w : Focus Item) (below : List Shelf) (r : Rows) (q : Asked)
-    (led : Leads st mid (before-grant a f below r)) (items-are : f .this .items ≡ back-onto (w .before) (w .this ∷ w .after)) (listed : w .this .row ∈ f .this .free)
-    (all : Each AllListed (back-onto (f .before) (f .this ∷ below))) (narrow : NarrowShelf (f .this)) (total : occupied (back-onto (f .before) (f .this ∷ below)) ≤ 2147483647)
+    (led : Leads st mid (before-grant a f below r)) (items-are : f .this .items ≡ backOnto (w .before) (w .this ∷ w .after)) (listed : w .this .row ∈ f .this .free)
+    (all : Each AllListed (backOnto (f .before) (f .this ∷ below))) (narrow : NarrowShelf (f .this)) (total : occupied (backOnto (f .before) (f .this ∷ below)) ≤ mostArea)
     (wide : q .width ≤ w .this .width) (left : splitsItem q (w .this) ≡ true → 0 < rowsLeft (rows items (mid .items)) (r .items)) where
   pub pl : Placement a q f w below r mid
   pl = placement mid a f w below r q items-are (led .stands) all left
@@ -108,8 +92,8 @@ step-at : (st : State) (on row height : ℕ) (q : Asked) (mid : State) → fitSh
 unfolding grantAt
 step-at st on row height q mid e = ap (λ (t : State). occupy (takeItem t (onRow on) (atRow row) q) (atRow row)) e
 
-module _ (h : Header) (S I : List ℕ) (a : Atlas) (lies : Lies h S I a) (keeps : Keeps (roomIn S I) a) (q : Asked) (within : WithinAtlas (a .limits) q)
-    (at : Place) (k : PlaceHeld h S I a lies keeps q at) (rows-there : hasRows S I h at q ≡ true) where
+module _ (h : Header) (S I : List ℕ) (a : Atlas) (stored : Stores h S I a) (formed : WellFormed (roomIn S I) a) (q : Asked) (within : Placeable (a .limits) q)
+    (at : Place) (k : PlaceHeld h S I a stored formed q at) (rows-there : hasRows h S I at q ≡ true) where
   abbrev st : State
   st = state h S I
 
@@ -132,10 +116,10 @@ module _ (h : Header) (S I : List ℕ) (a : Atlas) (lies : Lies h S I a) (keeps 
       × Becomes S I (grantAt st at q .header) (grantAt st at q .shelves) (grantAt st at q .items) a′
 
   stands : Stands st a
-  stands = record { lies = lies; sound = keeps .sound }
+  stands = record { stored = stored; sound = formed .sound }
 
   suffice : tooFewRows (roomIn S I) (a .rows) (splitsShelf q s) (splitsItem q i) ≡ false
-  suffice = rows-suffice h S I a lies keeps q at k rows-there
+  suffice = rows-suffice h S I a stored formed q at k rows-there
 
   -- the step, once its shelf fits
   grant-step : (mid : State) → fitShelf st (onRow (s .row)) q ≡ mid → grantAt st at q ≡ occupy (takeItem mid (onRow (s .row)) (atRow (i .row)) q) (atRow (i .row))
@@ -143,30 +127,30 @@ module _ (h : Header) (S I : List ℕ) (a : Atlas) (lies : Lies h S I a) (keeps 
 
   -- what is left in the end: the answer is read where the item stands
   closed : (done : State) (g : Focus Shelf) (below : List Shelf) (r : Rows) (mid : State) (pl : Placement a q g w below r mid)
-      → grantAt st at q ≡ done → grant (roomIn S I) a q ≡ place a q g w below r → Leads st done (pl .after) → Grants
+      → grantAt st at q ≡ done → grant (roomIn S I) a q ≡ grantItem a q g w below r → Leads st done (pl .after) → Grants
   unfolding grantedAt
   closed done g below r mid pl step e led =
-      let shaped : Shaped (pl .after) = grant-shaped (roomIn S I) a q _ (pl .after) keeps within (e ∙ pl .is) in
+      let shaped : Shaped (pl .after) = grant-shaped (roomIn S I) a q _ (pl .after) formed within (e ∙ pl .is) in
       let b : Becomes S I (done .header) (done .shelves) (done .items) (pl .after) = becomes h S I done (pl .after) led shaped in
-      let tells : liveAt (done .shelves) (done .items) (done .header) (at .item .0) ≡ liveOf (a .limits) (g .this) (pl .found .item .this) =
-      ap (λ (x : Place). liveAt (done .shelves) (done .items) (done .header) (x .item .0)) (k .is)
-      ∙ told (done .header) (done .shelves) (done .items) (pl .after) (b .lies) (b .keeps) (pl .found) (i .row) (pl .found-at)
+      let tells : liveAt (done .header) (done .shelves) (done .items) (at .item .0) ≡ liveOf (a .limits) (g .this) (pl .found .item .this) =
+      ap (λ (x : Place). liveAt (done .header) (done .shelves) (done .items) (x .item .0)) (k .is)
+      ∙ told (done .header) (done .shelves) (done .items) (pl .after) (led .stands .stored) (record { sound = led .stands .sound; shaped = shaped }) (pl .found) (i .row) (pl .found-at)
       ∙ pl .same-live in
       (pl .after, rw (step, tells) (e ∙ pl .is), rw step b)
 
   -- ---- the shelf as it is
 
   narrow-here : NarrowShelf s
-  narrow-here = shelf-narrow a (keeps .shaped) (f .before) s (f .after) (k .chosen .stands)
+  narrow-here = shelf-narrow a (formed .shaped) (f .before) s (f .after) (k .chosen .stands)
 
-  all-here : Each AllListed (back-onto (f .before) (s ∷ f .after))
-  all-here = rw (k .chosen .stands) at (keeps .shaped .all-listed)
+  all-here : Each AllListed (backOnto (f .before) (s ∷ f .after))
+  all-here = rw (k .chosen .stands) at (formed .shaped .all-listed)
 
   same-atlas : a ≡ before-grant a f (f .after) (a .rows)
   same-atlas = ap (λ (ss : List Shelf). record { limits = a .limits; shelves = ss; rows = a .rows }) (k .chosen .stands)
 
-  place-unsplit : splitsShelf q s ≡ false → placeIn (roomIn S I) a q f w ≡ place a q f w (f .after) (a .rows)
-  unfolding placeIn
+  place-unsplit : splitsShelf q s ≡ false → grantInShelf (roomIn S I) a q f w ≡ grantItem a q f w (f .after) (a .rows)
+  unfolding grantInShelf
   place-unsplit e = rw (suffice, e)
 
   left-unsplit : splitsShelf q s ≡ false → splitsItem q i ≡ true → 0 < rowsLeft (rows items I) (a .rows .items)
@@ -176,7 +160,7 @@ module _ (h : Header) (S I : List ℕ) (a : Atlas) (lies : Lies h S I a) (keeps 
   unsplit : splitsShelf q s ≡ false → Grants
   unsplit e =
       let led : Leads st st (before-grant a f (f .after) (a .rows)) = leads-same st _ (subst (Stands st) same-atlas stands) in
-      let total : occupied (back-onto (f .before) (s ∷ f .after)) ≤ 2147483647 = rw (k .chosen .stands) at (shaped-narrow a (keeps .shaped) .total) in
+      let total : occupied (backOnto (f .before) (s ∷ f .after)) ≤ mostArea = rw (k .chosen .stands) at (shaped-narrow a (formed .shaped) .total) in
       closed _ f (f .after) (a .rows) st
       (pl st st a f w (f .after) (a .rows) q led (k .chosen .spot .stands) (k .chosen .spot .listed) all-here narrow-here total (k .chosen .wide) (left-unsplit e))
       (grant-step st (fit-whole st a (f .before) s (f .after) q (k .chosen .stands) stands e))
@@ -200,8 +184,8 @@ module _ (h : Header) (S I : List ℕ) (a : Atlas) (lies : Lies h S I a) (keeps 
   abbrev mid : State
   mid = fitShelf st (onRow (s .row)) q
 
-  place-split : splitsShelf q s ≡ true → placeIn (roomIn S I) a q f w ≡ place a q g w below r
-  unfolding placeIn
+  place-split : splitsShelf q s ≡ true → grantInShelf (roomIn S I) a q f w ≡ grantItem a q g w below r
+  unfolding grantInShelf
   place-split e = rw (suffice, e)
 
   -- one row of each table for the shelf, and one more of the item table where the item is split too
@@ -218,23 +202,23 @@ module _ (h : Header) (S I : List ℕ) (a : Atlas) (lies : Lies h S I a) (keeps 
 
   left-then : splitsShelf q s ≡ true → splitsItem q i ≡ true → 0 < rowsLeft (rows items (mid .items)) (r .items)
   unfolding itemTaken shelfTaken
-  left-then e x = rw (as-many (led-split e .items-past)) (left-after (rows items I) (a .rows .items) (left-both e x))
+  left-then e x = rw (rows-long items (mid .items) I (led-split e .items-past .as-long)) (left-after (rows items I) (a .rows .items) (left-both e x))
 
-  all-split : Each AllListed (back-onto (f .before) (upperPart d s ∷ below))
+  all-split : Each AllListed (backOnto (f .before) (upperPart d s ∷ below))
   unfolding upperPart lowerPart
   all-split =
       let (bs, ys) = each-split AllListed (f .before) (s ∷ f .after) all-here in
       each-join AllListed (f .before) (upperPart d s ∷ below) bs (ys .0, (λ x m. m, ys .1))
 
-  total-split : splitsShelf q s ≡ true → occupied (back-onto (f .before) (upperPart d s ∷ below)) ≤ 2147483647
+  total-split : splitsShelf q s ≡ true → occupied (backOnto (f .before) (upperPart d s ∷ below)) ≤ mostArea
   unfolding headerOf
   total-split e =
       omega (
         arith,
-        ap (λ (x : Header). x .occupied) (led-split e .stands .lies .header),
+        ap (λ (x : Header). x .occupied) (led-split e .stands .stored .header),
         fit-occupied st (s .row) q,
-        ap (λ (x : Header). x .occupied) (lies .header),
-        shaped-narrow a (keeps .shaped) .total,
+        ap (λ (x : Header). x .occupied) (stored .header),
+        shaped-narrow a (formed .shaped) .total,
       )
 
   split : splitsShelf q s ≡ true → Grants

@@ -1,36 +1,25 @@
 -- What the search of the tables holds, and what the rules grant there: answers 6 and 7, and the place of a grant. Assumes nothing.
-use Prim.Native.Nat.{ℕ}
-use mathlib.Core.Path.{_≡_, refl, sym, ap, _∙_, subst}
-use mathlib.Core.Logic.{_⊎_, inl, inr, ⊎-elim}
-use mathlib.Core.Bool.{Bool, true, false, not}
-use mathlib.Core.Option.{some}
-use mathlib.Core.List.{List, []}
-use native.Mathlib.Omega.{arith}
+use Rattle.numbers.specs.Library.{ℕ, _≡_, refl, sym, ap, _∙_, subst, _⊎_, inl, inr, ⊎-elim, Bool, true, false, not, some, List, [], arith}
 use Rattle.numbers.specs.declared.request.Asked.{Asked}
-use Rattle.chains.specs.Lists.{Focus}
-use Rattle.rows.specs.Item.{items}
-use Rattle.rows.specs.Views.{Body, bodyOf}
+use Rattle.chains.specs.Prelude.{Focus}
+use Rattle.rows.specs.Prelude.{Body, bodyOf}
 use Rattle.rows.specs.declared.header.Header.{Header}
-use Rattle.rules.specs.Atlas.{Item, Shelf, Atlas}
+use Rattle.rules.specs.Prelude.{Item, Shelf, Atlas, refused, splitsShelf, splitsItem, tooFewRows, findItem, grantInShelf, grantRow, grant, Found, Stores}
+use Rattle.rules.specs.Prelude.{roomIn, WellFormed}
 use Rattle.rules.specs.Search as rule
-use Rattle.rules.specs.Grant.{splitsShelf, splitsItem, tooFewRows, refused, findItem, placeIn, placeAt, grant}
-use Rattle.rules.specs.Release.{Found}
-use Rattle.rules.specs.Lies.{Lies, roomIn}
-use Rattle.rules.specs.Keeps.{Keeps}
-use Rattle.keeps.specs.Places.{Chosen}
-use Rattle.keeps.proofs.Kept.{search-holds, search-finds}
-use Rattle.keeps.proofs.Finding.{FoundItem, find-item}
-use Rattle.steps.specs.Search as table
-use Rattle.steps.specs.Spare.{hasRows}
-use Rattle.steps.specs.Live.{atRow}
-use Rattle.steps.specs.declared.places.Place.{Place}
-use Rattle.steps.specs.declared.places.Held.{Held}
-use Rattle.steps.specs.declared.places.Held.the-variants.{Nothing, Good, Bad}
-use Rattle.finding.proofs.Walking.{held-rows}
-use Rattle.finding.proofs.Searching.{search-says}
-use Rattle.finding.proofs.RowsLeft.{rows-say}
-use Rattle.finding.proofs.Looking.{item-says, shelf-says}
-use Rattle.opening.proofs.Standing.{onRow}
+use Rattle.laws.specs.Places.{Chosen}
+use Rattle.laws.proofs.Shape.Kept.{search-holds, search-finds}
+use Rattle.laws.proofs.Shape.Finding.{FoundItem, find-item}
+use Rattle.search.specs.Search as table
+use Rattle.spare.specs.Spare.{hasRows}
+use Rattle.live.specs.Live.{atRow}
+use Rattle.search.specs.declared.Place.{Place}
+use Rattle.search.specs.declared.Held.the-variants.{Nothing, Good, Bad}
+use Rattle.bridge.proofs.Search.Walking.{held-rows}
+use Rattle.bridge.proofs.Search.Searching.{search-says}
+use Rattle.bridge.proofs.Search.RowsLeft.{rows-say}
+use Rattle.bridge.proofs.Search.Looking.{item-says, shelf-says}
+use Rattle.bridge.proofs.Items.Standing.{onRow}
 
 -- the rows of a shelf and an item, as the search holds them
 abbrev pub placeOf : Shelf → Item → Place
@@ -53,12 +42,12 @@ some-held rule.nothing p = ⊎-elim (λ e. absurd (let z : _≡_ {A = ℕ} 0 1 =
 some-held (rule.good f r) p = ⊎-elim (λ e. record { shelf = f; row = r; held = inl refl; is = cc }) (λ e. absurd (let z : _≡_ {A = ℕ} 0 1 = cc in omega arith))
 some-held (rule.bad f r) p = ⊎-elim (λ e. absurd (let z : _≡_ {A = ℕ} 0 1 = cc in omega arith)) (λ e. record { shelf = f; row = r; held = inr refl; is = cc })
 
-module _ (h : Header) (S I : List ℕ) (a : Atlas) (lies : Lies h S I a) (keeps : Keeps (roomIn S I) a) (q : Asked) where
-  says : table.search S I h q ≡ held-rows (rule.search q (a .shelves))
-  says = search-says h S I a lies keeps q
+module _ (h : Header) (S I : List ℕ) (a : Atlas) (stored : Stores h S I a) (formed : WellFormed (roomIn S I) a) (q : Asked) where
+  says : table.search h S I q ≡ held-rows (rule.search q (a .shelves))
+  says = search-says h S I a stored formed q
 
   -- answer 6
-  pub refuses-6 : table.search S I h q ≡ Nothing → grant (roomIn S I) a q ≡ refused 6
+  pub refuses-6 : table.search h S I q ≡ Nothing → grant (roomIn S I) a q ≡ refused 6
   unfolding grant
   refuses-6 e = rw (nothing-held (rule.search q (a .shelves)) (sym says ∙ e), grant)
 
@@ -68,15 +57,15 @@ module _ (h : Header) (S I : List ℕ) (a : Atlas) (lies : Lies h S I a) (keeps 
     pub item : Focus Item
     pub chosen : Chosen a q shelf item
     pub is : p ≡ placeOf (shelf .this) (item .this)
-    pub grant-is : grant (roomIn S I) a q ≡ placeIn (roomIn S I) a q shelf item
+    pub grant-is : grant (roomIn S I) a q ≡ grantInShelf (roomIn S I) a q shelf item
 
-  grant-at : (f : Focus Shelf) (row : ℕ) → (rule.search q (a .shelves) ≡ rule.good f row) ⊎ (rule.search q (a .shelves) ≡ rule.bad f row) → grant (roomIn S I) a q ≡ placeAt (roomIn S I) a q f row
+  grant-at : (f : Focus Shelf) (row : ℕ) → (rule.search q (a .shelves) ≡ rule.good f row) ⊎ (rule.search q (a .shelves) ≡ rule.bad f row) → grant (roomIn S I) a q ≡ grantRow (roomIn S I) a q f row
   unfolding grant
   grant-at f row = ⊎-elim (λ e. rw (e, grant)) (λ e. rw (e, grant))
 
-  at-found : (f : Focus Shelf) (row : ℕ) (w : Focus Item) → findItem row [] (f .this .items) ≡ some w → placeAt (roomIn S I) a q f row ≡ placeIn (roomIn S I) a q f w
-  unfolding placeAt
-  at-found f row w e = rw (e, placeAt)
+  at-found : (f : Focus Shelf) (row : ℕ) (w : Focus Item) → findItem row [] (f .this .items) ≡ some w → grantRow (roomIn S I) a q f row ≡ grantInShelf (roomIn S I) a q f w
+  unfolding grantRow
+  at-found f row w e = rw (e, grantRow)
 
   held-at : (p : Place) (k : Holding (rule.search q (a .shelves)) p) (w : Focus Item) → findItem (k .row) [] (k .shelf .this .items) ≡ some w → Chosen a q (k .shelf) w → PlaceHeld p
   held-at p k w e c = record {
@@ -89,10 +78,10 @@ module _ (h : Header) (S I : List ℕ) (a : Atlas) (lies : Lies h S I a) (keeps 
     found : FoundItem (k .row) (k .shelf .this .items) (k .shelf .this .items) (some w)
     found = subst (FoundItem (k .row) (k .shelf .this .items) (k .shelf .this .items)) e (find-item (k .row) [] (k .shelf .this .items))
 
-  pub place-held : (p : Place) → (table.search S I h q ≡ Good p) ⊎ (table.search S I h q ≡ Bad p) → PlaceHeld p
+  pub place-held : (p : Place) → (table.search h S I q ≡ Good p) ⊎ (table.search h S I q ≡ Bad p) → PlaceHeld p
   place-held p o =
       let k : Holding (rule.search q (a .shelves)) p = some-held (rule.search q (a .shelves)) p (⊎-elim (λ e. inl (sym says ∙ e)) (λ e. inr (sym says ∙ e)) o) in
-      let (w, e, c) = search-finds (roomIn S I) a q (k .shelf) (k .row) keeps (search-holds q (a .shelves) (k .shelf) (k .row) (k .held)) in
+      let (w, e, c) = search-finds (roomIn S I) a q (k .shelf) (k .row) formed (search-holds q (a .shelves) (k .shelf) (k .row) (k .held)) in
       held-at p k w e c
 
   -- ---- the rows that a place needs
@@ -101,14 +90,14 @@ module _ (h : Header) (S I : List ℕ) (a : Atlas) (lies : Lies h S I a) (keeps 
     abbrev found : Found
     found = record { shelf = k .shelf; item = k .item }
 
-    rows-enough : hasRows S I h p q ≡ not (tooFewRows (roomIn S I) (a .rows) (splitsShelf q (k .shelf .this)) (splitsItem q (k .item .this)))
+    rows-enough : hasRows h S I p q ≡ not (tooFewRows (roomIn S I) (a .rows) (splitsShelf q (k .shelf .this)) (splitsItem q (k .item .this)))
     unfolding bodyOf
     rows-enough =
-        ap (λ (x : Place). hasRows S I h x q) (k .is)
-        ∙ rows-say h S I a lies keeps q (k .shelf .this) _ _
-        (shelf-says h S I a lies (keeps .sound) found (k .item .this .row) (k .chosen .stands, k .chosen .spot .stands, refl))
+        ap (λ (x : Place). hasRows h S I x q) (k .is)
+        ∙ rows-say h S I a stored formed q (k .shelf .this) _ _
+        (shelf-says h S I a stored (formed .sound) found (k .item .this .row) (k .chosen .stands, k .chosen .spot .stands, refl))
         (k .item .this)
-        (ap (λ (b : Body). b .width) (item-says h S I a lies (keeps .sound) found (k .chosen .stands, k .chosen .spot .stands, refl)))
+        (ap (λ (b : Body). b .width) (item-says h S I a stored (formed .sound) found (k .chosen .stands, k .chosen .spot .stands, refl)))
         (k .shelf .this .depth)
 
     turned : (b c d : Bool) → b ≡ not c → b ≡ not d → c ≡ d
@@ -117,13 +106,13 @@ module _ (h : Header) (S I : List ℕ) (a : Atlas) (lies : Lies h S I a) (keeps 
     turned b true false e f = absurd (let z : _≡_ {A = Bool} true false = sym f ∙ e in let y : _≡_ {A = ℕ} 0 1 = cc in omega arith)
     turned b false true e f = absurd (let z : _≡_ {A = Bool} true false = sym e ∙ f in let y : _≡_ {A = ℕ} 0 1 = cc in omega arith)
 
-    few-rows : (b : Bool) → hasRows S I h p q ≡ not b → tooFewRows (roomIn S I) (a .rows) (splitsShelf q (k .shelf .this)) (splitsItem q (k .item .this)) ≡ b
-    few-rows b e = turned (hasRows S I h p q) _ b rows-enough e
+    few-rows : (b : Bool) → hasRows h S I p q ≡ not b → tooFewRows (roomIn S I) (a .rows) (splitsShelf q (k .shelf .this)) (splitsItem q (k .item .this)) ≡ b
+    few-rows b e = turned (hasRows h S I p q) _ b rows-enough e
 
     -- answer 7
-    pub refuses-7 : hasRows S I h p q ≡ false → grant (roomIn S I) a q ≡ refused 7
-    unfolding placeIn
+    pub refuses-7 : hasRows h S I p q ≡ false → grant (roomIn S I) a q ≡ refused 7
+    unfolding grantInShelf
     refuses-7 e = k .grant-is ∙ rw (few-rows true e)
 
-    pub rows-suffice : hasRows S I h p q ≡ true → tooFewRows (roomIn S I) (a .rows) (splitsShelf q (k .shelf .this)) (splitsItem q (k .item .this)) ≡ false
+    pub rows-suffice : hasRows h S I p q ≡ true → tooFewRows (roomIn S I) (a .rows) (splitsShelf q (k .shelf .this)) (splitsItem q (k .item .this)) ≡ false
     rows-suffice e = few-rows false e

@@ -1,20 +1,12 @@
 -- Item rows that link among themselves: an edit of such a table follows its links, so it changes none of the rows after them. Assumes nothing.
-use Prim.Native.Nat.{ℕ, _≤_, _<_}
-use mathlib.Core.Path.{_≡_, refl}
-use mathlib.Core.Logic.{_⊎_, inl, inr, ⊎-elim}
-use mathlib.Core.List.{List}
-use native.Mathlib.Decide.{ℕ-discrete}
-use native.Mathlib.Omega.{arith}
-use Rattle.numbers.specs.Index.{noRow, noItem}
+use Rattle.numbers.specs.Library.{ℕ, _≤_, _<_, _≡_, refl, _⊎_, inl, inr, ⊎-elim, List, ℕ-discrete, arith}
+use Rattle.numbers.specs.Prelude.{noRow, noItem}
 use Rattle.numbers.specs.declared.index.ItemIndex.{ItemIndex}
-use Rattle.rows.specs.Row.{rows, get, put, rows-put, get-put-same, get-put-other, get-none, put-none}
-use Rattle.rows.specs.Change.{change, change-is}
-use Rattle.rows.specs.Item.{items, withWidth, withItemX, withItemPrev, withItemNext, withPrevFree, withNextFree, withAllocated, withGeneration}
-use Rattle.rows.specs.Pool.{freedItemRow, removeItem}
-use Rattle.rows.specs.declared.header.Header.{Header}
-use Rattle.rows.specs.declared.item.ItemRow.{ItemRow}
-use Rattle.steps.specs.ItemEdits.{withLinks, withSpan, markLive, markFree, restOf, unlist, relist, enlist, joinNext}
-use Rattle.stacking.proofs.Past.{Past, past-put, past-more}
+use Rattle.rows.specs.Prelude.{rows, get, put, rows-put, get-put-same, get-put-other, get-none, put-none, change, change-is, Past, past-put, past-more, items}
+use Rattle.rows.specs.Prelude.{withWidth, withItemX, withItemPrev, withItemNext, withPrevFree, withNextFree, withAllocated, withGeneration}
+use Rattle.pool.specs.Pool.{freedItemRow, removeItem}
+use Rattle.rows.specs.declared.{header.Header.Header, item.ItemRow.ItemRow}
+use Rattle.item_edits.specs.ItemEdits.{withLinks, withSpan, markLive, markFree, restOf, unlist, relist, enlist, joinNext}
 
 -- one of the first n rows, or no row
 abbrev pub Below : ℕ → ℕ → Type 0
@@ -123,7 +115,7 @@ module _ {n : ℕ} {I₀ I : List ℕ} (w : Inward n I₀ I) where
   unfolding removeItem
   inward-remove h at b c = inward-put w (at .0) _ c (linked-freed n (w .some) (h .«free_items») _ b)
 
-pub inward-join : {n : ℕ} {I₀ I : List ℕ} (w : Inward n I₀ I) (h : Header) (at : ItemIndex) → Below n (h .«free_items» .0) → Below n (at .0) → Inward n I₀ (joinNext I h at)
+pub inward-join : {n : ℕ} {I₀ I : List ℕ} (w : Inward n I₀ I) (h : Header) (at : ItemIndex) → Below n (h .«free_items» .0) → Below n (at .0) → Inward n I₀ (joinNext h I at)
 unfolding joinNext
 inward-join {n} {I₀} {I} w h at b c =
     let i : Linked n (get items I (at .0)) = linked-at w (at .0) c in

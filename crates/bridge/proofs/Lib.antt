@@ -1,5 +1,8 @@
+pub mod Search
+pub mod Shelves
+pub mod Items
 pub mod Outcome
-pub mod Made
+pub mod Creating
 pub mod Answers
 pub mod Inward
 pub mod Served

@@ -1,20 +1,13 @@
 -- A release changes item rows in use only, and one shelf row. Assumes nothing.
-use Prim.Native.Nat.{ℕ, _<_}
-use mathlib.Core.Logic.{inl}
-use mathlib.Core.List.{List}
-use lib.Dec.{eqb}
-use Rattle.numbers.specs.declared.index.ItemIndex.{ItemIndex}
-use Rattle.numbers.specs.declared.index.ShelfIndex.{ShelfIndex}
-use Rattle.rows.specs.Row.{get}
-use Rattle.rows.specs.Item.{items}
-use Rattle.rows.specs.Shelf.{shelves, shelfAt}
-use Rattle.rows.specs.Header.{withFreeItems, withOccupied}
-use Rattle.rows.specs.Pool.{itemFreed}
-use Rattle.keeps.proofs.Around.{pick-cases}
-use Rattle.steps.specs.State.{State}
-use Rattle.steps.specs.ItemEdits.{markFree, firstAfter}
-use Rattle.steps.specs.Release.{Loose, isFreeItem, absorbNext, mergeNext, mergeInto, loosen, vacated, loosened, releaseItem}
-use Rattle.stacking.proofs.Past.{Past, past-same, past-change}
+use Rattle.numbers.specs.Library.{ℕ, _<_, inl, List, eqb}
+use Rattle.numbers.specs.declared.{index.ItemIndex.ItemIndex, index.ShelfIndex.ShelfIndex}
+use Rattle.rows.specs.Prelude.{get, Past, past-same, past-change, items, shelves, shelfAt, withFreeItems, withOccupied}
+use Rattle.pool.specs.Pool.{itemFreed}
+use Rattle.laws.proofs.Shape.Around.{pick-cases}
+use Rattle.shelf_edits.specs.State.{State}
+use Rattle.item_edits.specs.ItemEdits.{markFree, firstAfter}
+use Rattle.merge_items.specs.MergeItems.{Loose, isFreeItem, absorbNext, mergeNext, mergeInto, loosen}
+use Rattle.merge.specs.Merge.{withAreaRemoved, loosened, releaseItem}
 use Rattle.bridge.proofs.Inward.{Below, Linked, Inward, linked-at, inward-change, linked-mark, inward-unlist, inward-enlist, inward-join}
 
 -- on the way through a release: the item table, the head of the freed rows and the first free row
@@ -53,7 +46,7 @@ module _ (n : ℕ) (I₀ : List ℕ) (m : Loose) (w : LooseIn n I₀ m) (at : It
 module _ (st : State) (on : ShelfIndex) (at : ItemIndex) where
   pub released-items : (n : ℕ) → Inward n (st .items) (st .items) → Below n (st .header .«free_items» .0) → Below n (shelfAt (st .shelves) on .«first_unallocated» .0) → Below n (at .0)
       → Past items n (st .items) (releaseItem st on at .items)
-  unfolding releaseItem loosened loosen vacated withOccupied
+  unfolding releaseItem loosened loosen withAreaRemoved withOccupied
   released-items n w head first b =
       let m : LooseIn n (st .items) _ = record { table = inward-change w (at .0) markFree b (linked-mark n); head = head; first = first } in
       into-in n (st .items) _ (next-in n (st .items) _ m at b) at b .table .past

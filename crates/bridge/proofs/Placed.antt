@@ -1,46 +1,34 @@
 -- A grant at a place: the item granted is found in the atlas that the rules make, and the step changes rows in use only. Assumes nothing.
-use Prim.Native.Nat.{_≤_, _<_}
-use mathlib.Core.Path.{_≡_, refl, ap, _∙_}
-use mathlib.Core.Logic.{inl, inr}
-use mathlib.Core.Bool.{Bool, true, false}
-use mathlib.Core.Option.{some}
-use mathlib.Core.List.{List, [], _∷_, List·Memᴰ·head, Memᴰ·append-left}
-use native.Mathlib.Omega.{arith}
+use Rattle.numbers.specs.Library.{_≤_, _<_, _≡_, refl, ap, _∙_, inl, inr, Bool, true, false, some, List, [], _∷_, List·Memᴰ·head, Memᴰ·append-left, arith}
 use Rattle.numbers.specs.declared.request.Asked.{Asked}
-use Rattle.chains.specs.Lists.{_∈_, Each, Focus, back-onto}
-use Rattle.chains.proofs.Chains.{in-onto}
-use Rattle.rows.specs.Row.{rows, get}
-use Rattle.rows.specs.Item.{items}
-use Rattle.rows.specs.Shelf.{shelves}
-use Rattle.rows.specs.Pool.{newItem}
+use Rattle.chains.specs.Prelude.{_∈_, Each, Focus, backOnto}
+use Rattle.chains.proofs.Prelude.{in-onto}
+use Rattle.rows.specs.Prelude.{rows, get, Past, items, shelves}
+use Rattle.pool.specs.Pool.{newItem}
 use Rattle.rows.specs.declared.header.Header.{Header}
-use Rattle.rules.specs.Atlas.{Item, Shelf, Rows, Atlas}
-use Rattle.rules.specs.Grant.{newRow, taken, rowsLeft, splitsItem, itemTaken, granted, holding, grantWhole, grantPart, liveOf, grants, place}
-use Rattle.rules.specs.Release.{Found}
-use Rattle.rules.specs.Lies.{headerOf}
-use Rattle.rules.specs.Keeps.{itemRows, allItemRows, AllListed}
-use Rattle.keeps.proofs.Finding.{FoundAt}
-use Rattle.steps.specs.State.{State}
-use Rattle.steps.specs.Live.{atRow}
-use Rattle.steps.specs.Spare.{splitsItem as splitsRow}
-use Rattle.steps.specs.Grant.{takePart, takeWhole, takeItem}
-use Rattle.opening.proofs.Standing.{Stands, onRow, used-items}
-use Rattle.opening.proofs.Taking.{freedRow, Fresh, fresh, item-new}
-use Rattle.opening.proofs.Placing.{splits-same}
-use Rattle.stacking.proofs.Past.{Past}
+use Rattle.rules.specs.Prelude.{Item, Shelf, Rows, Atlas, newRow, taken, rowsLeft, splitsItem, itemTaken, grantedItem, holding, grantWhole, grantPart, liveOf}
+use Rattle.rules.specs.Prelude.{grants, grantItem, Found, headerOf, itemRows, allItemRows, AllListed}
+use Rattle.laws.proofs.Shape.Finding.{FoundAt}
+use Rattle.shelf_edits.specs.State.{State}
+use Rattle.live.specs.Live.{atRow}
+use Rattle.spare.specs.Spare.{splitsItem as splitsRow}
+use Rattle.grant.specs.Grant.{takePart, takeWhole, takeItem}
+use Rattle.bridge.proofs.Items.Standing.{Stands, onRow, used-items}
+use Rattle.bridge.proofs.Items.Taking.{freedRow, Fresh, fresh, item-new}
+use Rattle.bridge.proofs.Items.Placing.{splits-same}
 use Rattle.bridge.proofs.Inward.{Inward}
 use Rattle.bridge.proofs.Served.{inward}
 use Rattle.bridge.proofs.Taken.{TakenRow, taken-row, whole-past, part-past, use-past}
 
 -- the atlas in which the shelf of the place stands before `below`
 abbrev pub before-grant : Atlas → Focus Shelf → List Shelf → Rows → Atlas
-before-grant a f below r = record { limits = a .limits; shelves = back-onto (f .before) (f .this ∷ below); rows = r }
+before-grant a f below r = record { limits = a .limits; shelves = backOnto (f .before) (f .this ∷ below); rows = r }
 
 -- What a grant at a place comes to: the atlas after it, the item granted where it stands there, and tables changed in used rows only.
 pub record Placement (a : Atlas) (asked : Asked) (f : Focus Shelf) (w : Focus Item) (below : List Shelf) (r : Rows) (st : State) : Type 0 where
   pub after : Atlas
   pub found : Found
-  pub is : place a asked f w below r ≡ grants (liveOf (a .limits) (f .this) (found .item .this)) after
+  pub is : grantItem a asked f w below r ≡ grants (liveOf (a .limits) (f .this) (found .item .this)) after
   pub found-at : FoundAt (w .this .row) (after .shelves) (after .shelves) (some found)
   pub same-live : liveOf (after .limits) (found .shelf .this) (found .item .this) ≡ liveOf (a .limits) (f .this) (found .item .this)
   pub more-shelves : r .shelves .used ≤ after .rows .shelves .used
@@ -49,8 +37,8 @@ pub record Placement (a : Atlas) (asked : Asked) (f : Focus Shelf) (w : Focus It
   pub items-past : Past items (after .rows .items .used) (st .items) (takeItem st (onRow (f .this .row)) (atRow (w .this .row)) asked .items)
 
 module _ (st : State) (a : Atlas) (f : Focus Shelf) (w : Focus Item) (below : List Shelf) (r : Rows) (asked : Asked)
-    (items-are : f .this .items ≡ back-onto (w .before) (w .this ∷ w .after))
-    (stands : Stands st (before-grant a f below r)) (all : Each AllListed (back-onto (f .before) (f .this ∷ below)))
+    (items-are : f .this .items ≡ backOnto (w .before) (w .this ∷ w .after))
+    (stands : Stands st (before-grant a f below r)) (all : Each AllListed (backOnto (f .before) (f .this ∷ below)))
     (left : splitsItem asked (w .this) ≡ true → 0 < rowsLeft (rows items (st .items)) (r .items)) where
   abbrev s : Shelf
   s = f .this
@@ -83,12 +71,12 @@ module _ (st : State) (a : Atlas) (f : Focus Shelf) (w : Focus Item) (below : Li
   whole-step e = rw (chooses false e)
 
   whole : splitsItem asked i ≡ false → Placement a asked f w below r st
-  unfolding place grantWhole granted holding liveOf takeWhole
+  unfolding grantItem grantWhole grantedItem holding liveOf takeWhole
   whole e = record {
-    after = record { limits = a .limits; shelves = back-onto (f .before) (grantWhole s w ∷ below); rows = r };
+    after = record { limits = a .limits; shelves = backOnto (f .before) (grantWhole s w ∷ below); rows = r };
     found = record {
       shelf = record { before = f .before; this = grantWhole s w; after = below };
-      item = record { before = w .before; this = granted i (i .width); after = w .after };
+      item = record { before = w .before; this = grantedItem i (i .width); after = w .after };
     };
     is = rw e;
     found-at = (refl, refl, refl);
@@ -108,8 +96,8 @@ module _ (st : State) (a : Atlas) (f : Focus Shelf) (w : Focus Item) (below : Li
   new-row : splitsItem asked i ≡ true → newItem (st .header) ≡ atRow (newRow freedRow (r .items))
   unfolding headerOf
   new-row e =
-      item-new (st .items) (st .header) (allItemRows (a₀ .shelves)) (r .items) (ap (λ (q : Header). q .«free_items» .0) (stands .lies .header)) (ap (λ (q : Header). q .«used_items») (stands .lies .header))
-      (used-items st a₀ stands) (left e) (stands .sound .item-rows) (stands .lies .freed-items)
+      item-new (st .items) (st .header) (allItemRows (a₀ .shelves)) (r .items) (ap (λ (q : Header). q .«free_items» .0) (stands .stored .header)) (ap (λ (q : Header). q .«used_items») (stands .stored .header))
+      (used-items st a₀ stands) (left e) (stands .sound .item-rows) (stands .stored .freed-items)
 
   part-items : splitsItem asked i ≡ true → Past items (taken (r .items) .used) (st .items) (takePart st (onRow (s .row)) (atRow (i .row)) (asked .width) .items)
   unfolding takePart
@@ -120,12 +108,12 @@ module _ (st : State) (a : Atlas) (f : Focus Shelf) (w : Focus Item) (below : Li
       (t .more) (k .in-room) (rw (new-row e) (t .there)) (rw (new-row e) (t .cover))
 
   part : splitsItem asked i ≡ true → Placement a asked f w below r st
-  unfolding place grantPart granted holding liveOf itemTaken takePart
+  unfolding grantItem grantPart grantedItem holding liveOf itemTaken takePart
   part e = record {
-    after = record { limits = a .limits; shelves = back-onto (f .before) (grantPart r s w (asked .width) ∷ below); rows = itemTaken r };
+    after = record { limits = a .limits; shelves = backOnto (f .before) (grantPart r s w (asked .width) ∷ below); rows = itemTaken r };
     found = record {
       shelf = record { before = f .before; this = grantPart r s w (asked .width); after = below };
-      item = record { before = w .before; this = granted i (asked .width); after = _ };
+      item = record { before = w .before; this = grantedItem i (asked .width); after = _ };
     };
     is = rw e;
     found-at = (refl, refl, refl);

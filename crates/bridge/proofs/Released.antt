@@ -1,40 +1,27 @@
 -- A release, whole: what it leaves in header and tables is the atlas that the rules make. Assumes nothing.
-use Prim.Native.Nat.{ℕ, _≤_, _<_}
-use mathlib.Core.Path.{_≡_, refl, sym, ap, subst}
-use mathlib.Core.Logic.{inl, inr}
-use mathlib.Core.Bool.{true}
-use mathlib.Core.Option.{some}
-use mathlib.Core.List.{List, [], _∷_, List·Memᴰ·head, Memᴰ·append-left}
-use native.Mathlib.Omega.{arith}
+use Rattle.numbers.specs.Library.{ℕ, _≤_, _<_, _≡_, refl, sym, ap, subst, inl, inr, true, some, List, [], _∷_, List·Memᴰ·head, Memᴰ·append-left, arith}
 use Rattle.numbers.specs.declared.index.ShelfIndex.{ShelfIndex}
-use Rattle.chains.specs.Lists.{_∈_, back-onto}
-use Rattle.chains.proofs.Chains.{in-onto, each-split, self}
-use Rattle.rows.specs.Row.{get}
-use Rattle.rows.specs.Item.{items}
-use Rattle.rows.specs.Shelf.{shelves}
-use Rattle.rows.specs.declared.header.Header.{Header}
-use Rattle.rows.specs.declared.shelf.ShelfRow.{ShelfRow}
-use Rattle.rules.specs.Atlas.{Item, Shelf, Atlas}
-use Rattle.rules.specs.Grant.{holding}
-use Rattle.rules.specs.Release.{Loose, Stack, Found, mergeNext, mergeInto, mergeBelow, mergeAbove, releaseFound}
-use Rattle.rules.specs.Lies.{free, Lies, headerOf, roomIn}
-use Rattle.rules.specs.Keeps.{itemRows, allItemRows, AllListed, FreeListed, Shaped, Keeps}
+use Rattle.chains.specs.Prelude.{_∈_, backOnto}
+use Rattle.chains.proofs.Prelude.{in-onto, each-split, self}
+use Rattle.rows.specs.Prelude.{get, items, shelves}
+use Rattle.rows.specs.declared.{header.Header.Header, shelf.ShelfRow.ShelfRow}
+use Rattle.rules.specs.Prelude.{Item, Shelf, Atlas, holding, Loose, Stack, Found, mergeNext, mergeInto, mergeBelow, mergeAbove, releaseFound, free, Stores}
+use Rattle.rules.specs.Prelude.{headerOf, roomIn, itemRows, allItemRows, AllListed, FreeListed, Shaped, WellFormed, Becomes}
 use Rattle.rules.proofs.LiveRows.{free-row}
-use Rattle.keeps.proofs.Finding.{FoundAt}
-use Rattle.keeps.proofs.Columns.{Placed, stacked-placed}
-use Rattle.keeps.proofs.ReleaseShaped.{release-shape}
-use Rattle.steps.specs.State.{State, state}
-use Rattle.steps.specs.Live.{atRow}
-use Rattle.steps.specs.Release.{mergeBelow as mergeBelowAt, mergeAbove as mergeAboveAt, releaseItem, releaseAt}
-use Rattle.finding.proofs.Looking.{found-used}
-use Rattle.finding.proofs.Narrow.{shaped-narrow, shelf-narrow}
-use Rattle.opening.proofs.Standing.{Stands, NarrowShelf, onRow, shelf-says}
-use Rattle.opening.proofs.Placing.{names-shelf}
-use Rattle.opening.proofs.Steady.{itemsOf}
-use Rattle.opening.proofs.Releasing.{release-stands}
-use Rattle.stacking.proofs.Leads.{Leads, leads-then}
-use Rattle.stacking.proofs.Merging.{merge-both}
-use Rattle.bridge.specs.After.{Becomes}
+use Rattle.laws.proofs.Shape.Finding.{FoundAt}
+use Rattle.laws.proofs.Shape.Columns.{Placed, stacked-placed}
+use Rattle.laws.proofs.Shape.ReleaseShaped.{release-shape}
+use Rattle.shelf_edits.specs.State.{State, state}
+use Rattle.live.specs.Live.{atRow}
+use Rattle.merge.specs.Merge.{mergeBelow as mergeBelowAt, mergeAbove as mergeAboveAt, releaseItem, releaseAt}
+use Rattle.bridge.proofs.Search.Looking.{found-used}
+use Rattle.bridge.proofs.Search.Narrow.{shaped-narrow, shelf-narrow}
+use Rattle.bridge.proofs.Items.Standing.{Stands, NarrowShelf, onRow, shelf-says}
+use Rattle.bridge.proofs.Items.Placing.{names-shelf}
+use Rattle.bridge.proofs.Items.Steady.{itemsOf}
+use Rattle.bridge.proofs.Items.Releasing.{release-stands}
+use Rattle.bridge.proofs.Shelves.Leads.{Leads, leads-then}
+use Rattle.bridge.proofs.Shelves.Merging.{merge-both}
 use Rattle.bridge.proofs.Outcome.{becomes}
 use Rattle.bridge.proofs.Inward.{Below}
 use Rattle.bridge.proofs.Served.{first-below, inward, head-below}
@@ -47,7 +34,7 @@ release-step : (st : State) (on row : ℕ) → get items (st .items) row .shelf 
 unfolding releaseAt
 release-step st on row e = ap (λ (k : ShelfIndex). mergeAboveAt (mergeBelowAt (releaseItem st k (atRow row)) k) k) e
 
-module _ (h : Header) (S I : List ℕ) (a : Atlas) (lies : Lies h S I a) (keeps : Keeps (roomIn S I) a) (row : ℕ) (w : Found)
+module _ (h : Header) (S I : List ℕ) (a : Atlas) (stored : Stores h S I a) (formed : WellFormed (roomIn S I) a) (row : ℕ) (w : Found)
     (found : FoundAt row (a .shelves) (a .shelves) (some w)) (was-live : w .item .this .live ≡ true) where
   abbrev st : State
   st = state h S I
@@ -59,38 +46,38 @@ module _ (h : Header) (S I : List ℕ) (a : Atlas) (lies : Lies h S I a) (keeps 
   i = w .item .this
 
   stands : Stands st a
-  stands = record { lies = lies; sound = keeps .sound }
+  stands = record { stored = stored; sound = formed .sound }
 
   -- ---- the item is in use, and so is its shelf
 
   item-used : i .row < a .rows .items .used
-  item-used = found-used h S I a lies keeps w (i .row) (found .0, found .1, refl)
+  item-used = found-used h S I a stored formed w (i .row) (found .0, found .1, refl)
 
   shelf-used : s .row < a .rows .shelves .used
   shelf-used =
-      keeps .sound .shelf-rows .serving-used (s .row)
+      formed .sound .shelf-rows .serving-used (s .row)
       (rw (found .0) (in-onto (λ (q : Shelf). q .row ∷ []) (s .row) (w .shelf .before) (s ∷ w .shelf .after) (inr (List·Memᴰ·head refl))))
 
   listed : FreeListed s
-  listed = each-split FreeListed (w .shelf .before) (s ∷ w .shelf .after) (rw (found .0) at (keeps .sound .free-listed)) .1 .0
+  listed = each-split FreeListed (w .shelf .before) (s ∷ w .shelf .after) (rw (found .0) at (formed .sound .free-listed)) .1 .0
 
   all : AllListed s
-  all = each-split AllListed (w .shelf .before) (s ∷ w .shelf .after) (rw (found .0) at (keeps .shaped .all-listed)) .1 .0
+  all = each-split AllListed (w .shelf .before) (s ∷ w .shelf .after) (rw (found .0) at (formed .shaped .all-listed)) .1 .0
 
   narrow-here : NarrowShelf s
-  narrow-here = shelf-narrow a (keeps .shaped) (w .shelf .before) s (w .shelf .after) (found .0)
+  narrow-here = shelf-narrow a (formed .shaped) (w .shelf .before) s (w .shelf .after) (found .0)
 
   -- its free list starts with a row in use, or with none
   free-head : Below (a .rows .items .used) (get shelves S (s .row) .«first_unallocated» .0)
   free-head =
       let mine : (r : ℕ) → r ∈ s .free → r ∈ itemRows (s .items) = λ r m. free-row (s .items) r (listed .only r m) in
       subst (Below (a .rows .items .used)) (sym (ap (λ (v : ShelfRow). v .«first_unallocated» .0) (shelf-says st a stands (w .shelf .before) s (w .shelf .after) (found .0))))
-      (first-below free (a .rows .items .used) (s .free) (λ r m. keeps .sound .item-rows .serving-used r
+      (first-below free (a .rows .items .used) (s .free) (λ r m. formed .sound .item-rows .serving-used r
       (rw (found .0) (in-onto (λ (q : Shelf). itemRows (q .items)) r (w .shelf .before) (s ∷ w .shelf .after) (inr (Memᴰ·append-left (allItemRows (w .shelf .after)) (mine r (rw self at m))))))))
 
   freed-head : Below (a .rows .items .used) (h .«free_items» .0)
   unfolding headerOf
-  freed-head = subst (Below (a .rows .items .used)) (sym (ap (λ (q : Header). q .«free_items» .0) (lies .header))) (head-below st a stands (keeps .shaped .all-listed))
+  freed-head = subst (Below (a .rows .items .used)) (sym (ap (λ (q : Header). q .«free_items» .0) (stored .header))) (head-below st a stands (formed .shaped .all-listed))
 
   -- ---- the item loosened
 
@@ -101,7 +88,7 @@ module _ (h : Header) (S I : List ℕ) (a : Atlas) (lies : Lies h S I a) (keeps 
   k = record { shelves = record { before = w .shelf .before; this = holding s (itemsOf m) (m .free); after = w .shelf .after }; rows = m .rows }
 
   abbrev a₁ : Atlas
-  a₁ = record { limits = a .limits; shelves = back-onto (w .shelf .before) (holding s (itemsOf m) (m .free) ∷ w .shelf .after); rows = m .rows }
+  a₁ = record { limits = a .limits; shelves = backOnto (w .shelf .before) (holding s (itemsOf m) (m .free) ∷ w .shelf .after); rows = m .rows }
 
   abbrev st₁ : State
   st₁ = releaseItem st (onRow (s .row)) (atRow (i .row))
@@ -111,9 +98,9 @@ module _ (h : Header) (S I : List ℕ) (a : Atlas) (lies : Lies h S I a) (keeps 
 
   loosened : Leads st st₁ a₁
   loosened = record {
-    stands = release-stands st a w (found .0) (found .1) was-live all stands narrow-here (shaped-narrow a (keeps .shaped) .total);
+    stands = release-stands st a w (found .0) (found .1) was-live all stands narrow-here (shaped-narrow a (formed .shaped) .total);
     shelves-past = released-shelves st (onRow (s .row)) (atRow (i .row)) (m .rows .shelves .used) (omega (arith, as-used .shelves, shelf-used));
-    items-past = rw (as-used .items) (released-items st (onRow (s .row)) (atRow (i .row)) (a .rows .items .used) (inward st a stands (keeps .shaped .all-listed) (omega (arith, item-used))) freed-head free-head (inl item-used));
+    items-past = rw (as-used .items) (released-items st (onRow (s .row)) (atRow (i .row)) (a .rows .items .used) (inward st a stands (formed .shaped .all-listed) (omega (arith, item-used))) freed-head free-head (inl item-used));
   }
 
   -- ---- the shelves merged
@@ -122,20 +109,20 @@ module _ (h : Header) (S I : List ℕ) (a : Atlas) (lies : Lies h S I a) (keeps 
   k′ = mergeAbove (mergeBelow k)
 
   abbrev a′ : Atlas
-  a′ = record { limits = a .limits; shelves = back-onto (k′ .shelves .before) (k′ .shelves .this ∷ k′ .shelves .after); rows = k′ .rows }
+  a′ = record { limits = a .limits; shelves = backOnto (k′ .shelves .before) (k′ .shelves .this ∷ k′ .shelves .after); rows = k′ .rows }
 
   is-release : releaseFound a w ≡ a′
   unfolding releaseFound
   is-release = refl
 
   shaped : Shaped a′
-  shaped = rw is-release at (release-shape _ a keeps row w found)
+  shaped = rw is-release at (release-shape _ a formed row w found)
 
   fits : k′ .shelves .this .depth ≤ 65535
   fits =
       omega (
         arith,
-        shaped .limits .H-most,
+        shaped .limits .sizes .H-most,
         each-split (Placed (a .limits)) (k′ .shelves .before) (k′ .shelves .this ∷ k′ .shelves .after) (stacked-placed (a .limits) 0 0 (a′ .shelves) (shaped .stacked)) .1 .0,
       )
 

@@ -1,26 +1,16 @@
 -- In a state in which an atlas stands whose free lists are whole, the used item rows link among themselves. Assumes nothing.
-use Prim.Native.Nat.{ℕ, _<_}
-use mathlib.Core.Path.{_≡_, refl, sym, ap, _∙_, subst}
-use mathlib.Core.Logic.{_⊎_, inl, inr, ⊎-elim}
-use mathlib.Core.List.{List, [], _∷_, List·Memᴰ·head, List·Memᴰ·tail, List·Memᴰ·not-nil, List·Memᴰ·cases-cons, List·Memᴰ·append-cases, Memᴰ·append-left, Memᴰ·append-right}
-use native.Mathlib.Omega.{arith}
-use Rattle.numbers.specs.Index.{noRow}
-use Rattle.chains.specs.Lists.{_∈_, Each}
-use Rattle.chains.specs.Chain.{Kind, firstRow, Chain}
-use Rattle.chains.proofs.Lists.{decMemᴰ}
-use Rattle.chains.proofs.Chains.{rowsOf, self}
-use Rattle.rows.specs.Row.{rows, get}
-use Rattle.rows.specs.Item.{items, withItemNext, withGeneration}
-use Rattle.rows.specs.Pool.{freedItemRow}
-use Rattle.rows.specs.Views.{Body, bodyOf, linksOf}
-use Rattle.rules.specs.Atlas.{Shelf, Freed, Atlas}
-use Rattle.rules.specs.Lies.{item, free, freedItem, Holds}
-use Rattle.rules.specs.Keeps.{itemRows, allItemRows, freedRows, AllListed, FreeListed}
+use Rattle.numbers.specs.Library.{ℕ, _<_, _≡_, refl, sym, ap, _∙_, subst, inl, inr, ⊎-elim, List, [], _∷_, List·Memᴰ·head, List·Memᴰ·tail, List·Memᴰ·not-nil}
+use Rattle.numbers.specs.Library.{List·Memᴰ·cases-cons, List·Memᴰ·append-cases, Memᴰ·append-left, Memᴰ·append-right, arith}
+use Rattle.numbers.specs.Prelude.{noRow}
+use Rattle.chains.specs.Prelude.{_∈_, Each, Kind, firstRow, Chain}
+use Rattle.chains.proofs.Prelude.{decMemᴰ, rowsOf, self}
+use Rattle.rows.specs.Prelude.{get, past-same, items, withItemNext, withGeneration, Body, bodyOf, linksOf}
+use Rattle.pool.specs.Pool.{freedItemRow}
+use Rattle.rules.specs.Prelude.{Shelf, Freed, Atlas, item, free, freedItem, Holds, itemRows, allItemRows, freedRows, AllListed, FreeListed}
 use Rattle.rules.proofs.LiveRows.{free-row}
-use Rattle.reading.proofs.Determined.{live-or-free}
-use Rattle.steps.specs.State.{State}
-use Rattle.opening.proofs.Standing.{Stands, used-items}
-use Rattle.stacking.proofs.Past.{past-same}
+use Rattle.laws.proofs.Stored.Determined.{live-or-free}
+use Rattle.shelf_edits.specs.State.{State}
+use Rattle.bridge.proofs.Items.Standing.{Stands, used-items}
 use Rattle.bridge.proofs.Inward.{Below, Linked, Inward}
 
 -- ---- along a chain
@@ -95,9 +85,9 @@ module _ (st : State) (a : Atlas) (stands : Stands st a) (all : Each AllListed (
   used = a .rows .items .used
 
   used-linked : (r : ℕ) → r < used → Dec (r ∈ allItemRows (a .shelves)) → Linked used (get items (st .items) r)
-  used-linked r b (yes m) = shelves-linked (st .items) used (a .shelves) (stands .lies .shelf-items) all (stands .sound .free-listed) (stands .sound .item-rows .serving-used) r m
+  used-linked r b (yes m) = shelves-linked (st .items) used (a .shelves) (stands .stored .shelf-items) all (stands .sound .free-listed) (stands .sound .item-rows .serving-used) r m
   used-linked r b (no k) =
-      freed-linked (st .items) used (omega arith) (a .rows .items .freed) (stands .lies .freed-items) (λ q d. stands .sound .item-rows .freed-exactly q .0 d .0) r
+      freed-linked (st .items) used (omega arith) (a .rows .items .freed) (stands .stored .freed-items) (λ q d. stands .sound .item-rows .freed-exactly q .0 d .0) r
       (stands .sound .item-rows .freed-exactly r .1 (b, k))
 
   pub inward : 0 < used → Inward used (st .items) (st .items)

@@ -1,26 +1,16 @@
 -- A grant changes item rows in use only, those that are then in use included, and one shelf row. Assumes nothing.
-use Prim.Native.Nat.{ℕ, _+_, _≤_, _<_}
-use mathlib.Core.Path.{_≡_, refl}
-use mathlib.Core.Logic.{_⊎_, inl, inr}
-use mathlib.Core.List.{List, [], _∷_, List·Memᴰ·head}
-use native.Mathlib.Decide.{ℕ-discrete}
-use native.Mathlib.Omega.{arith}
-use Rattle.numbers.specs.declared.index.ItemIndex.{ItemIndex}
-use Rattle.numbers.specs.declared.index.ShelfIndex.{ShelfIndex}
-use Rattle.rows.specs.Row.{rows, get}
-use Rattle.rows.specs.Item.{items}
-use Rattle.rows.specs.Shelf.{shelves}
-use Rattle.rows.specs.Pool.{newItem, addItem, newGeneration}
+use Rattle.numbers.specs.Library.{ℕ, _+_, _≤_, _<_, _≡_, refl, _⊎_, inl, inr, List, [], _∷_, List·Memᴰ·head, ℕ-discrete, arith}
+use Rattle.numbers.specs.declared.{index.ItemIndex.ItemIndex, index.ShelfIndex.ShelfIndex}
+use Rattle.rows.specs.Prelude.{rows, get, Past, past-same, past-change, items, shelves}
+use Rattle.pool.specs.Pool.{newItem, addItem, newGeneration}
 use Rattle.rows.specs.declared.header.Header.{Header}
-use Rattle.chains.specs.Lists.{_∈_}
-use Rattle.rules.specs.Atlas.{Pool}
-use Rattle.rules.specs.Grant.{newRow, taken}
-use Rattle.rules.specs.Keeps.{Shared}
-use Rattle.steps.specs.ItemEdits.{markLive, splitItem}
-use Rattle.steps.specs.Grant.{useShelf, takePartItems, takeWholeItems}
-use Rattle.opening.proofs.Taking.{rowsIn}
-use Rattle.stacking.proofs.Past.{Past, past-same, past-change}
-use Rattle.bridge.proofs.Inward.{Below, Inward, inward-change, inward-new, linked-live, linked-span, linked-prev, linked-rest, below-more, inward-unlist, inward-relist}
+use Rattle.chains.specs.Prelude.{_∈_}
+use Rattle.rules.specs.Prelude.{Pool, newRow, taken, Shared}
+use Rattle.item_edits.specs.ItemEdits.{markLive, splitItem}
+use Rattle.grant.specs.Grant.{useShelf, takePartItems, takeWholeItems}
+use Rattle.bridge.proofs.Items.Taking.{rowsIn}
+use Rattle.bridge.proofs.Inward.{Below, Inward, inward-change, inward-new, linked-live, linked-span, linked-prev, linked-rest, below-more, inward-unlist}
+use Rattle.bridge.proofs.Inward.{inward-relist}
 
 -- ---- the rows in use once one is taken
 
@@ -49,7 +39,7 @@ whole-past n I at w b = inward-change (inward-unlist w at b) (at .0) markLive b 
 
 module _ (m n : ℕ) (I : List ℕ) (h : Header) (at : ItemIndex) (width : ℕ) (w : Inward m I I) (b : at .0 < m)
     (more : m ≤ n) (room : n ≤ rows items I) (there : newItem h .0 < n) (cover : (r : ℕ) → r < n → (r ≡ newItem h .0) ⊎ (r < m)) where
-  inward-split : Inward n I (splitItem I h at width)
+  inward-split : Inward n I (splitItem h I at width)
   unfolding splitItem addItem
   inward-split =
       let next : Below n (get items I (at .0) .next .0) = below-more m n _ more (w .linked (at .0) b .next) in
@@ -57,7 +47,7 @@ module _ (m n : ℕ) (I : List ℕ) (h : Header) (at : ItemIndex) (width : ℕ) 
       let new : Inward n I _ = inward-new w n (newItem h .0) _ more room there cover (linked-rest n (get items I (at .0)) at width (newGeneration I h) here next) in
       inward-change (inward-change new (at .0) _ here (linked-span n width (newItem h) (inl there))) _ _ next (linked-prev n (newItem h) (inl there))
 
-  pub part-past : Past items n I (takePartItems I h at width)
+  pub part-past : Past items n I (takePartItems h I at width)
   unfolding takePartItems
   part-past = let here : Below n (at .0) = inl (omega arith) in inward-change (inward-relist inward-split at (newItem h) here (inl there)) (at .0) markLive here (linked-live n) .past
 

@@ -1,0 +1,98 @@
+-- Grants and releases of an opened shelf, made of the changes of an item table. Assumes nothing.
+use Rattle.numbers.specs.Library.{ℕ, _<_, _≤_, _+_, _≡_, refl, sym, ap, inr, ⊎-elim, true, false, List, [], _∷_, _++_, List·Memᴰ·head, List·Memᴰ·cases-cons}
+use Rattle.numbers.specs.Library.{Memᴰ·cast, Memᴰ·append-right}
+use Rattle.numbers.specs.declared.index.ItemIndex.{ItemIndex}
+use Rattle.chains.specs.Prelude.{_∈_, backOnto, firstRow, firstOf}
+use Rattle.chains.proofs.Prelude.{onto-apart, in-onto, onto-in}
+use Rattle.rows.specs.Prelude.{rows, change, items}
+use Rattle.rows.specs.declared.header.Header.{Header}
+use Rattle.rules.specs.Prelude.{Item, Freed, Pool, Rows, resized, newRow, taken, rowsLeft, newItemRow, grantedItem, restOf, freeing, freeWith, itemRows}
+use Rattle.live.specs.Live.{atRow}
+use Rattle.item_edits.specs.ItemEdits.{markLive, markFree, splitItem, joinNext, unlist, relist, enlist}
+use Rattle.grant.specs.Grant.{takePartItems, takeWholeItems}
+use Rattle.rules.proofs.LiveRows.{live-free}
+use Rattle.bridge.proofs.Items.Taking.{freedRow, item-new}
+use Rattle.bridge.proofs.Items.Open.{Open, once, listed, listed-row, unlist-open, relist-open, enlist-open}
+use Rattle.bridge.proofs.Items.Marks.{liveOf, freeOf, at-in, live-open, free-open}
+use Rattle.bridge.proofs.Items.Split.{split-open, new-out}
+use Rattle.bridge.proofs.Items.Join.{join-open}
+
+abbrev one : ℕ → List ℕ
+one r = r ∷ []
+
+-- ---- a grant
+
+module _ {I₀ I : List ℕ} {on : ℕ} {others : List ℕ} (r : Rows) (ib : List Item) (i : Item) (ia : List Item) (fb fa : List ℕ)
+    (o : Open I₀ I on (backOnto ib (i ∷ ia)) (backOnto fb (i .row ∷ fa)) (r .items) others) where
+  -- the whole item
+  pub whole-open : Open I₀ (takeWholeItems I (atRow (i .row))) on (backOnto ib (grantedItem i (i .width) ∷ ia)) (backOnto fb fa) (r .items) others
+  unfolding takeWholeItems grantedItem
+  whole-open =
+      let (db, dy, apart) = onto-apart one fb (i .row ∷ fa) (o .free-once) in
+      live-open ib i ia (unlist-open fb (i .row) fa o) (grantedItem i (i .width)) refl
+      (λ m. ⊎-elim (λ k. apart (i .row) k (List·Memᴰ·head refl)) (dy .0) (onto-in one (i .row) fb fa m))
+
+  -- the left part of it
+  module _ (h : Header) (head : h .«free_items» .0 ≡ firstRow freedRow (r .items .freed)) (used : h .«used_items» ≡ r .items .used)
+      (left : 0 < rowsLeft (rows items I) (r .items)) (width : ℕ) (within : width ≤ i .width) (narrow : i .x + i .width ≤ 65535) where
+    part-is : takePartItems h I (atRow (i .row)) width
+        ≡ change items (relist (splitItem h I (atRow (i .row)) width) (atRow (i .row)) (atRow (newRow freedRow (r .items)))) (i .row) markLive
+    unfolding takePartItems
+    part-is =
+        ap (λ (k : ItemIndex). change items (relist (splitItem h I (atRow (i .row)) width) (atRow (i .row)) k) (i .row) markLive)
+        (item-new I h (itemRows (backOnto ib (i ∷ ia)) ++ others) (r .items) head used (o .room) left (o .shared) (o .freed))
+
+    pub part-open : Open I₀ (takePartItems h I (atRow (i .row)) width) on (backOnto ib (grantedItem i width ∷ restOf r i width ∷ ia)) (backOnto fb (newItemRow r ∷ fa)) (taken (r .items)) others
+    unfolding grantedItem restOf newItemRow
+    part-open =
+        let (db, dy, apart) = onto-apart one fb (i .row ∷ fa) (o .free-once) in
+        let new : ℕ = newRow freedRow (r .items) in
+        let i′ : Item = resized i width (i .live) in
+        let n : Item = restOf r i width in
+        let out : new ∈ itemRows (backOnto ib (i ∷ ia)) → ⊥ = new-out ib i ia o h head used left width within narrow in
+        rw part-is
+        (live-open ib i′ (n ∷ ia)
+        (relist-open fb (i .row) fa (split-open ib i ia o h head used left width within narrow) new
+        (in-onto freeOf new ib (i′ ∷ n ∷ ia) (inr (Memᴰ·append-right (freeOf i) (List·Memᴰ·head refl))))
+        (λ m. out (listed-row o new m)))
+        (grantedItem i width) refl
+        (λ m. ⊎-elim
+        (λ k. apart (i .row) k (List·Memᴰ·head refl))
+        (λ k. ⊎-elim (λ e. out (Memᴰ·cast (sym e) (at-in ib i ia o))) (dy .0) (List·Memᴰ·cases-cons k))
+        (onto-in one (i .row) fb (new ∷ fa) m)))
+
+-- ---- a release
+
+module _ {I₀ I : List ℕ} {on : ℕ} {fl : List ℕ} {p : Pool Freed} {others : List ℕ} (ib : List Item) (i : Item) (ia : List Item)
+    (o : Open I₀ I on (backOnto ib (i ∷ ia)) fl p others) where
+  -- the item is free, and on no list yet
+  pub freed-open : i .live ≡ true → Open I₀ (change items I (i .row) markFree) on (backOnto ib (freeWith i (i .width) ∷ ia)) fl p others × (i .row ∈ listed fl → ⊥)
+  unfolding freeWith
+  freed-open e = (
+    free-open ib i ia o (freeWith i (i .width)) refl,
+    λ m. live-free (backOnto ib (i ∷ ia)) (once o) (i .row) (in-onto liveOf (i .row) ib (i ∷ ia) (inr (rw e (List·Memᴰ·head refl)))) (o .only (i .row) m),
+  )
+
+  -- it goes to the front of the free list
+  pub push-open : i .live ≡ false → (i .row ∈ listed fl → ⊥) → Open I₀ (enlist I (atRow (firstOf fl)) (atRow (i .row))) on (backOnto ib (i ∷ ia)) (i .row ∷ fl) p others
+  push-open e out = enlist-open o (i .row) (in-onto freeOf (i .row) ib (i ∷ ia) (inr (rw e (List·Memᴰ·head refl)))) out
+
+-- a free next item merged into it
+pub next-open : {I₀ I : List ℕ} {on : ℕ} {p : Pool Freed} {others : List ℕ} (ib : List Item) (i n : Item) (ia : List Item) (fb fa : List ℕ)
+    → Open I₀ I on (backOnto ib (freeWith i (i .width) ∷ n ∷ ia)) (backOnto fb (n .row ∷ fa)) p others
+    → (h : Header) → h .«free_items» .0 ≡ firstRow freedRow (p .freed) → i .width + n .width ≤ 65535
+    → Open I₀ (joinNext h (unlist I (atRow (n .row))) (atRow (i .row))) on (backOnto ib (freeWith i (i .width + n .width) ∷ ia)) (backOnto fb fa)
+    (freeing (record { row = n .row; generation = n .generation }) p) others
+unfolding freeWith
+next-open ib i n ia fb fa o h head narrow =
+    let (db, dy, apart) = onto-apart one fb (n .row ∷ fa) (o .free-once) in
+    join-open ib (freeWith i (i .width)) n ia (unlist-open fb (n .row) fa o)
+    (λ m. ⊎-elim (λ k. apart (n .row) k (List·Memᴰ·head refl)) (dy .0) (onto-in one (n .row) fb fa m)) h head narrow
+
+-- it is merged into a free previous item
+pub into-open : {I₀ I : List ℕ} {on : ℕ} {fl : List ℕ} {p : Pool Freed} {others : List ℕ} (ib : List Item) (b i : Item) (ia : List Item)
+    → Open I₀ I on (backOnto ib (b ∷ i ∷ ia)) fl p others → b .live ≡ false → (i .row ∈ listed fl → ⊥)
+    → (h : Header) → h .«free_items» .0 ≡ firstRow freedRow (p .freed) → b .width + i .width ≤ 65535
+    → Open I₀ (joinNext h I (atRow (b .row))) on (backOnto ib (freeWith b (b .width + i .width) ∷ ia)) fl (freeing (record { row = i .row; generation = i .generation }) p) others
+unfolding freeWith
+into-open ib b i ia o e out h head narrow = rw e at (join-open ib b i ia o out h head narrow)

@@ -1,0 +1,203 @@
+-- A live item released, as far as its shelf goes: the tables that the steps leave are those in which the loosened atlas stands.
+-- Assumes nothing.
+use Rattle.numbers.specs.Library.{ℕ, _<_, _≤_, _+_, _-_, _*_, _≡_, refl, sym, ap, _∙_, subst, inr, Bool, true, false, not, _&&_, List, [], _∷_, _++_}
+use Rattle.numbers.specs.Library.{List·Memᴰ·head, arith, eqb, ne-eqb}
+use Rattle.numbers.specs.Prelude.{pick, noRow, mostArea}
+use Rattle.numbers.specs.declared.index.ItemIndex.{ItemIndex}
+use Rattle.chains.specs.Prelude.{backOnto, firstRow, firstOf}
+use Rattle.chains.proofs.Prelude.{in-onto}
+use Rattle.rows.specs.Prelude.{get, get-none, change, items, shelves, withUsedItems, withFreeItems, withOccupied}
+use Rattle.rows.specs.declared.{header.Header.Header, shelf.ShelfRow.ShelfRow}
+use Rattle.rules.specs.Prelude.{Item, Shelf, Freed, Pool, Atlas, isEmpty, liveArea, occupied, holding, Loose, Found, mergeNext, mergeInto, shelf, item, flag}
+use Rattle.rules.specs.Prelude.{headerOf, allItemRows, AllListed}
+use Rattle.wrap.specs.Wrap.{minus32-is}
+use Rattle.shelf_edits.specs.State.{State}
+use Rattle.live.specs.Live.{atRow, areaAt}
+use Rattle.item_edits.specs.ItemEdits.{markFree, unlist, enlist, joinNext, firstAfter}
+use Rattle.shelf_edits.specs.ShelfEdits.{withFree}
+use Rattle.merge_items.specs.MergeItems.{Loose as Loosened, isFreeItem, absorbNext, mergeNext as nextMerged, mergeInto as intoMerged, loosen, oneFree}
+use Rattle.merge.specs.Merge.{withAreaRemoved as vacate, loosened, releaseItem}
+use Rattle.bridge.proofs.Items.Views.{seen-next, seen-allocated}
+use Rattle.rules.proofs.LiveRows.{live-free}
+use Rattle.bridge.proofs.Items.Frames.{area-onto, occupied-onto}
+use Rattle.bridge.proofs.Items.Standing.{Stands, onRow, shelf-says, widths, NarrowShelf}
+use Rattle.bridge.proofs.Items.Taking.{withPool}
+use Rattle.bridge.proofs.Items.Open.{Open, once, some}
+use Rattle.bridge.proofs.Items.Marks.{liveOf, at-in, body-is}
+use Rattle.bridge.proofs.Items.Close.{reshelved, open-shelf, close-stands, close-header}
+use Rattle.bridge.proofs.Items.Granting.{area-is}
+use Rattle.bridge.proofs.Items.Loosening.{Loosely, marked, next-merged, into-merged}
+use Rattle.bridge.proofs.Items.Steady.{itemsOf, Steady, Between, next-between, next-steady, into-steady}
+
+-- what the code's flag is read from: one item is left, and it is free
+one-free : {I₀ I : List ℕ} {on : ℕ} {fl : List ℕ} {p : Pool Freed} {others : List ℕ} (is : List Item) → Open I₀ I on is fl p others
+    → oneFree I (atRow (firstRow (item on .row) is)) ≡ isEmpty is
+unfolding oneFree isEmpty items
+one-free {I = I} [] o = rw (← get-none items I noRow refl)
+one-free {I = I} (i ∷ []) o =
+    rw (seen-allocated (get items I (i .row)) (body-is [] i [] o), seen-next (get items I (i .row)) (body-is [] i [] o)) (go (i .live))
+  where
+    go : (b : Bool) → (eqb (flag b) 0 && true) ≡ not b
+    go true = refl
+    go false = refl
+one-free {I = I} (i ∷ j ∷ is) o =
+    rw (seen-next (get items I (i .row)) (body-is [] i (j ∷ is) o), ne-eqb (j .row) noRow (some o (j .row) (at-in (i ∷ []) j is o))) (go (eqb (get items I (i .row) .allocated) 0))
+  where
+    go : (b : Bool) → (b && false) ≡ false
+    go true = refl
+    go false = refl
+
+loosen-step : (c : Loosened) (row : ℕ) → loosen c (atRow row) ≡ intoMerged (nextMerged (marked c row) (atRow row)) (atRow row)
+unfolding loosen intoMerged nextMerged isFreeItem absorbNext unlist joinNext enlist firstAfter markFree
+loosen-step c row = refl
+
+loosened-step : (st : State) (on row : ℕ)
+    → loosened st (onRow on) (atRow row) ≡ loosen (record { items = st .items; header = vacate (st .header) (areaAt (st .shelves) (st .items) (atRow row)); first = get shelves (st .shelves) on .«first_unallocated» }) (atRow row)
+unfolding loosened loosen vacate areaAt intoMerged nextMerged isFreeItem absorbNext unlist joinNext enlist firstAfter markFree
+loosened-step st on row = refl
+
+release-step : (st : State) (on row : ℕ) → releaseItem st (onRow on) (atRow row) ≡ record {
+  header = loosened st (onRow on) (atRow row) .header;
+  shelves = change shelves (st .shelves) on
+      (withFree (loosened st (onRow on) (atRow row) .first) (flag (oneFree (loosened st (onRow on) (atRow row) .items) (get shelves (st .shelves) on .«first_item»))));
+  items = loosened st (onRow on) (atRow row) .items;
+}
+unfolding releaseItem loosened oneFree withFree loosen vacate areaAt intoMerged nextMerged isFreeItem absorbNext unlist joinNext enlist firstAfter markFree
+release-step st on row = refl
+
+module _ (st : State) (a : Atlas) (w : Found)
+    (shelves-are : a .shelves ≡ backOnto (w .shelf .before) (w .shelf .this ∷ w .shelf .after))
+    (items-are : w .shelf .this .items ≡ backOnto (w .item .before) (w .item .this ∷ w .item .after))
+    (was-live : w .item .this .live ≡ true) (all : AllListed (w .shelf .this))
+    (stands : Stands st a) (narrow : NarrowShelf (w .shelf .this)) (total : occupied (a .shelves) ≤ mostArea) where
+  abbrev h : Header
+  h = st .header
+
+  abbrev S : List ℕ
+  S = st .shelves
+
+  abbrev I : List ℕ
+  I = st .items
+
+  abbrev bs : List Shelf
+  bs = w .shelf .before
+
+  abbrev s : Shelf
+  s = w .shelf .this
+
+  abbrev ys : List Shelf
+  ys = w .shelf .after
+
+  abbrev i : Item
+  i = w .item .this
+
+  abbrev others : List ℕ
+  others = allItemRows bs ++ allItemRows ys
+
+  -- the way through the rules, and the way through the steps
+  abbrev m₁ : Loose
+  m₁ = mergeNext (record { items = w .item; free = s .free; rows = a .rows })
+
+  abbrev pub m₂ : Loose
+  m₂ = mergeInto m₁
+
+  abbrev h₀ : Header
+  h₀ = withOccupied (h .occupied - i .width * s .depth) h
+
+  abbrev c₀ : Loosened
+  c₀ = record { items = I; header = h₀; first = get shelves S (s .row) .«first_unallocated» }
+
+  abbrev c₁ : Loosened
+  c₁ = nextMerged (marked c₀ (i .row)) (atRow (i .row))
+
+  abbrev c₂ : Loosened
+  c₂ = intoMerged c₁ (atRow (i .row))
+
+  o : Open I I (s .row) (backOnto (w .item .before) (i ∷ w .item .after)) (s .free) (a .rows .items) others
+  o = rw items-are at (open-shelf st a bs s ys shelves-are stands)
+
+  says : get shelves S (s .row) ≡ shelf .says (firstRow (shelf .row) bs) s (firstRow (shelf .row) ys)
+  says = shelf-says st a stands bs s ys shelves-are
+
+  between : Between (i .row) m₁
+  between =
+      next-between (w .item .before) i (w .item .after) (s .free) (a .rows)
+      (λ m. live-free (backOnto (w .item .before) (i ∷ w .item .after)) (once o) (i .row)
+      (in-onto liveOf (i .row) (w .item .before) (i ∷ w .item .after) (inr (rw was-live (List·Memᴰ·head refl)))) (o .only (i .row) m))
+
+  sum : (d : ℕ) → liveArea d (s .items) ≡ liveArea d (s .items) - i .width * d + i .width * d
+  unfolding liveArea
+  sum d = omega (arith, ap (liveArea d) items-are, area-onto d (w .item .before) (i ∷ w .item .after), ap (λ (b : Bool). pick b (i .width * d) 0) was-live)
+
+  steady₁ : Steady (firstRow (item 0 .row) (s .items)) (widths (s .items)) (λ d. liveArea d (s .items) - i .width * d) (a .rows .shelves) m₁
+  steady₁ =
+      next-steady (firstRow (item 0 .row) (s .items)) (widths (s .items)) (a .rows .shelves) (λ d. liveArea d (s .items)) (λ d. liveArea d (s .items) - i .width * d)
+      (w .item .before) i (w .item .after) (s .free) (a .rows) was-live sum
+      (record { first-item = rw items-are; live-area = λ d. rw items-are; as-wide = rw items-are; same-shelves = refl })
+
+  steady : Steady (firstRow (item 0 .row) (s .items)) (widths (s .items)) (λ d. liveArea d (s .items) - i .width * d) (a .rows .shelves) m₂
+  steady =
+      into-steady (firstRow (item 0 .row) (s .items)) (widths (s .items)) (a .rows .shelves) (λ d. liveArea d (s .items) - i .width * d)
+      (m₁ .items .before) (m₁ .items .this) (m₁ .items .after) (m₁ .free) (m₁ .rows) (between .is-free) steady₁
+
+  same-pool : h₀ ≡ withPool (a .rows .items) h₀
+  unfolding headerOf withOccupied withUsedItems withFreeItems
+  same-pool = cc (stands .stored .header)
+
+  loosely : Loosely I h₀ (s .row) others m₂ c₂
+  loosely =
+      let wide : widths (backOnto (w .item .before) (i ∷ w .item .after)) ≤ 65535 = rw items-are at (narrow .width) in
+      let l₁ : Loosely I h₀ (s .row) others m₁ c₁ =
+      next-merged I h₀ (s .row) others (w .item .before) i (s .free) (a .rows) c₀ was-live (w .item .after) (λ x m. all x (rw items-are m)) wide
+      (record { open-at = o; header = same-pool; first = ap (λ (v : ShelfRow). v .«first_unallocated») says }) in
+      subst (λ (q : ℕ). Loosely I h₀ (s .row) others m₂ (intoMerged c₁ (atRow q))) (between .same-row)
+      (into-merged I h₀ (s .row) others (m₁ .items .this) (m₁ .items .after) (m₁ .free) (m₁ .rows) c₁ (between .is-free) (rw (between .same-row) (between .unlisted)) (m₁ .items .before)
+      (rw (steady₁ .as-wide) (narrow .width)) l₁)
+
+  -- ---- so much less is occupied
+
+  was-occupied : h .occupied ≡ occupied bs + (liveArea (s .depth) (s .items) + occupied ys)
+  unfolding headerOf occupied
+  was-occupied = ap (λ (q : Header). q .occupied) (stands .stored .header) ∙ ap occupied shelves-are ∙ occupied-onto bs (s ∷ ys)
+
+  less : h .occupied - i .width * s .depth ≡ occupied (backOnto bs (holding s (itemsOf m₂) (m₂ .free) ∷ ys))
+  unfolding occupied holding
+  less = omega (arith, was-occupied, occupied-onto bs (holding s (itemsOf m₂) (m₂ .free) ∷ ys), steady .live-area (s .depth), sum (s .depth))
+
+  vacated : vacate (st .header) (areaAt (st .shelves) (st .items) (atRow (i .row))) ≡ h₀
+  unfolding vacate areaAt headerOf
+  vacated =
+      let fits : i .width * s .depth ≤ h .occupied = omega (arith, was-occupied, sum (s .depth)) in
+      let small : h .occupied < 4294967296 = omega (arith, total, ap (λ (q : Header). q .occupied) (stands .stored .header)) in
+      rw (area-is (w .item .before) i (w .item .after) o S (s .depth) (ap (λ (v : ShelfRow). v .height) says), minus32-is (h .occupied) (i .width * s .depth) fits small)
+
+  loosened-is : loosened st (onRow (s .row)) (atRow (i .row)) ≡ c₂
+  loosened-is =
+      loosened-step st (s .row) (i .row)
+      ∙ ap (λ (k : Header). loosen (record { items = I; header = k; first = get shelves S (s .row) .«first_unallocated» }) (atRow (i .row))) vacated
+      ∙ loosen-step c₀ (i .row)
+
+  -- ---- the shelf closed
+
+  emptied : flag (oneFree (c₂ .items) (get shelves S (s .row) .«first_item»)) ≡ flag (isEmpty (itemsOf m₂))
+  emptied =
+      let q : get shelves S (s .row) .«first_item» ≡ atRow (firstRow (item (s .row) .row) (itemsOf m₂)) =
+      ap (λ (v : ShelfRow). v .«first_item») says ∙ ap atRow (sym (steady .first-item)) in
+      rw (q, one-free (itemsOf m₂) (loosely .open-at))
+
+  header-is : c₂ .header ≡ headerOf (reshelved a bs (holding s (itemsOf m₂) (m₂ .free)) ys (m₂ .rows .items))
+  unfolding withOccupied withUsedItems withFreeItems
+  header-is = loosely .header ∙ close-header st a bs s ys shelves-are stands (holding s (itemsOf m₂) (m₂ .free)) (m₂ .rows .items) (h .occupied - i .width * s .depth) less
+
+  -- the atlas with the item loosened
+  abbrev pub a′ : Atlas
+  a′ = record { limits = a .limits; shelves = backOnto bs (holding s (itemsOf m₂) (m₂ .free) ∷ ys); rows = m₂ .rows }
+
+  rows-are : reshelved a bs (holding s (itemsOf m₂) (m₂ .free)) ys (m₂ .rows .items) ≡ a′
+  rows-are = ap (λ (p : Pool ℕ). record { limits = a .limits; shelves = backOnto bs (holding s (itemsOf m₂) (m₂ .free) ∷ ys); rows = record { shelves = p; items = m₂ .rows .items } }) (sym (steady .same-shelves))
+
+  pub release-stands : Stands (releaseItem st (onRow (s .row)) (atRow (i .row))) a′
+  release-stands =
+      let f : c₂ .first .0 ≡ firstOf (m₂ .free) = ap (λ (k : ItemIndex). k .0) (loosely .first) in
+      rw (release-step st (s .row) (i .row), loosened-is, ← rows-are)
+      (close-stands st a bs s ys shelves-are stands (c₂ .items) (itemsOf m₂) (m₂ .free) (m₂ .rows .items) (loosely .open-at) (steady .first-item) (c₂ .first) _ f emptied (c₂ .header) header-is)

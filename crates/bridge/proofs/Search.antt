@@ -1,0 +1,7 @@
+-- Search, rows left, look-up and list tell of the tables what the rules tell of the atlas.
+pub mod Walking
+pub mod Searching
+pub mod RowsLeft
+pub mod Narrow
+pub mod Looking
+pub mod Listing

@@ -1,0 +1,125 @@
+-- Look-up: an id names a live item of the tables exactly when it names one of the atlas, and the answer tells the same of both. Assumes nothing.
+use Rattle.numbers.specs.Library.{ℕ, _≤_, _<_, _≡_, refl, sym, ap, _∙_, inr, ⊎-elim, Bool, true, false, _&&_, Option, none, some, List, [], _∷_, List·Memᴰ·head}
+use Rattle.numbers.specs.Library.{List·Memᴰ·not-nil, List·Memᴰ·cases-cons, Memᴰ·append-left, decLt, ℕ-discrete, arith, eqb, eq-eqb, ne-eqb, lt-ltb, le-ltb}
+use Rattle.numbers.specs.Prelude.{pick, noRow, both}
+use Rattle.rows.specs.Prelude.{get, items, withItemNext, withGeneration, shelves, Body, bodyOf}
+use Rattle.pool.specs.Pool.{freedItemRow}
+use Rattle.rows.specs.declared.{header.Header.Header, item.ItemRow.ItemRow}
+use Rattle.chains.specs.Prelude.{_∈_, Each, firstRow, Chain}
+use Rattle.chains.proofs.Prelude.{chain-split, each-split, in-onto}
+use Rattle.rules.specs.Prelude.{Item, Shelf, Freed, Atlas, liveOf, Found, find, names, findLive, flag, item, shelf, freedItem, Holds, Stores, headerOf, roomIn}
+use Rattle.rules.specs.Prelude.{itemRows, allItemRows, freedRows, WellFormed, Sound}
+use Rattle.laws.proofs.Shape.Around.{pick-cases}
+use Rattle.laws.proofs.Shape.Finding.{FoundAt, find-at}
+use Rattle.wrap.specs.Wrap.{plus16-is}
+use Rattle.live.specs.Live as table
+use Rattle.bridge.proofs.Items.Standing.{NarrowShelf}
+use Rattle.bridge.proofs.Search.Narrow.{shelf-narrow, item-narrow}
+use Rattle.rules.proofs.Flags.{flag-one}
+
+-- a row of a chain of freed rows is not live
+freed-idle : (I : List ℕ) (p : ℕ) (fi : List Freed) → Chain freedItem (get items I) p fi → (r : ℕ) → r ∈ freedRows fi → get items I r .allocated ≡ 0
+unfolding freedItemRow withItemNext withGeneration
+freed-idle I p [] c r m = absurd (List·Memᴰ·not-nil m)
+freed-idle I p (f ∷ fi) c r m =
+    ⊎-elim (λ e. rw e (ap (λ (v : ItemRow). v .allocated) (c .0))) (freed-idle I (f .row) fi (c .1) r) (List·Memᴰ·cases-cons m)
+
+module _ (h : Header) (S I : List ℕ) (a : Atlas) (stored : Stores h S I a) (sound : Sound (roomIn S I) a) where
+  -- the row of an item where it stands, and that of its shelf
+  pub item-says : (w : Found) → FoundAt (w .item .this .row) (a .shelves) (a .shelves) (some w)
+      → bodyOf (get items I (w .item .this .row)) ≡ item (w .shelf .this .row) .says (firstRow (item 0 .row) (w .item .before)) (w .item .this) (firstRow (item 0 .row) (w .item .after))
+  item-says w found =
+      let holds : Each (Holds I) (w .shelf .this ∷ w .shelf .after) = each-split (Holds I) (w .shelf .before) (w .shelf .this ∷ w .shelf .after) (rw (found .0) at (stored .shelf-items)) .1 in
+      chain-split (item (w .shelf .this .row)) (λ r. bodyOf (get items I r)) (w .item .before) (w .item .this ∷ w .item .after) (rw (found .1) at (holds .0 .in-order)) .1 .0
+
+  pub shelf-says : (w : Found) → (row : ℕ) → FoundAt row (a .shelves) (a .shelves) (some w)
+      → get shelves S (w .shelf .this .row) ≡ shelf .says (firstRow (shelf .row) (w .shelf .before)) (w .shelf .this) (firstRow (shelf .row) (w .shelf .after))
+  shelf-says w row found =
+      chain-split shelf (get shelves S) (w .shelf .before) (w .shelf .this ∷ w .shelf .after) (rw (found .0) at (stored .shelf-chain)) .1 .0
+
+  -- a used row on no shelf is not live
+  pub idle : (r : ℕ) → r < a .rows .items .used → (r ∈ allItemRows (a .shelves) → ⊥) → get items I r .allocated ≡ 0
+  idle r used out = freed-idle I noRow (a .rows .items .freed) (stored .freed-items) r (sound .item-rows .freed-exactly r .1 (used, out))
+
+eqb-sym : (m n : ℕ) → eqb m n ≡ eqb n m
+eqb-sym m n = elim (ℕ-discrete m n) [ yes e ↦ eq-eqb m n e ∙ sym (eq-eqb n m (sym e)) | no d ↦ ne-eqb m n d ∙ sym (ne-eqb n m (λ e. d (sym e))) ]
+
+turned : (b c : Bool) → b && c ≡ c && b
+turned true true = refl
+turned true false = refl
+turned false true = refl
+turned false false = refl
+
+module _ (h : Header) (S I : List ℕ) (a : Atlas) (stored : Stores h S I a) (formed : WellFormed (roomIn S I) a) where
+  -- what the tables say of an item that is found
+  pub told : (w : Found) (row : ℕ) → FoundAt row (a .shelves) (a .shelves) (some w) → table.liveAt h S I row ≡ liveOf (a .limits) (w .shelf .this) (w .item .this)
+  unfolding table.liveAt table.liveOfRows liveOf headerOf bodyOf
+  told w row found =
+      let i : Item = w .item .this in
+      let s : Shelf = w .shelf .this in
+      let here : FoundAt (i .row) (a .shelves) (a .shelves) (some w) = (found .0, found .1, refl) in
+      let body = item-says h S I a stored (formed .sound) w here in
+      let narrow : NarrowShelf s = shelf-narrow a (formed .shaped) (w .shelf .before) s (w .shelf .after) (found .0) in
+      rw (
+        sym (found .2),
+        stored .header,
+        ap (λ (b : Body). b .shelf) body,
+        shelf-says h S I a stored (formed .sound) w (i .row) here,
+        ap (λ (b : Body). b .x) body,
+        ap (λ (b : Body). b .width) body,
+        ap (λ (b : Body). b .generation) body,
+        plus16-is (i .x) (i .width) (omega (arith, item-narrow s narrow (w .item .before) i (w .item .after) (found .1))),
+        plus16-is (s .y) (s .depth) (omega (arith, narrow .reach)),
+      )
+
+  used-is : h .«used_items» ≡ a .rows .items .used
+  unfolding headerOf
+  used-is = ap (λ (q : Header). q .«used_items») (stored .header)
+
+  pub found-used : (w : Found) (row : ℕ) → FoundAt row (a .shelves) (a .shelves) (some w) → row < a .rows .items .used
+  found-used w row found =
+      let mine : row ∈ itemRows (w .shelf .this .items) =
+      rw (found .1) (in-onto (λ (i : Item). i .row ∷ []) row (w .item .before) (w .item .this ∷ w .item .after) (inr (List·Memᴰ·head (sym (found .2))))) in
+      formed .sound .item-rows .serving-used row
+      (rw (found .0) (in-onto (λ (s : Shelf). itemRows (s .items)) row (w .shelf .before) (w .shelf .this ∷ w .shelf .after) (inr (Memᴰ·append-left (allItemRows (w .shelf .after)) mine))))
+
+  -- the flag of a row is that of its item
+  pub allocated-says : (w : Found) (row : ℕ) → FoundAt row (a .shelves) (a .shelves) (some w) → get items I row .allocated ≡ flag (w .item .this .live)
+  unfolding bodyOf
+  allocated-says w row found = rw (sym (found .2)) (ap (λ (b : Body). b .allocated) (item-says h S I a stored (formed .sound) w (found .0, found .1, refl)))
+
+  live-same : (w : Found) (row generation : ℕ) → FoundAt row (a .shelves) (a .shelves) (some w) → table.isLive h I row generation ≡ names row generation (w .item .this)
+  unfolding table.isLive names bodyOf
+  live-same w row generation found =
+      let i : Item = w .item .this in
+      let body = item-says h S I a stored (formed .sound) w (found .0, found .1, refl) in
+      let g : get items I row .generation ≡ i .generation = rw (sym (found .2)) (ap (λ (b : Body). b .generation) body) in
+      rw (used-is, lt-ltb row (a .rows .items .used) (found-used w row found), allocated-says w row found, g, flag-one (i .live), eq-eqb row (i .row) (sym (found .2)), eqb-sym generation (i .generation))
+      (turned (i .live) (eqb (i .generation) generation))
+
+  dead : (row generation : ℕ) → row < a .rows .items .used → (row ∈ allItemRows (a .shelves) → ⊥) → table.isLive h I row generation ≡ false
+  unfolding table.isLive
+  dead row generation b out = rw (used-is, lt-ltb row (a .rows .items .used) b, idle h S I a stored (formed .sound) row b out)
+
+  unused : (row generation : ℕ) → a .rows .items .used ≤ row → table.isLive h I row generation ≡ false
+  unfolding table.isLive
+  unused row generation b = rw (used-is, le-ltb row (a .rows .items .used) b)
+
+  named-live : (row generation : ℕ) (w : Found) → names row generation (w .item .this) ≡ true → w .item .this .live ≡ true
+  unfolding names
+  named-live row generation w e =
+      both (eqb row (w .item .this .row) && eqb generation (w .item .this .generation)) (w .item .this .live) e .1
+
+  -- the id names no live item, or this one
+  abbrev pub LiveSays : ℕ → ℕ → Option Found → Type 0
+  LiveSays row generation none = table.isLive h I row generation ≡ false
+  LiveSays row generation (some w) = (table.isLive h I row generation ≡ true) × FoundAt row (a .shelves) (a .shelves) (some w) × (w .item .this .live ≡ true)
+
+  pub live-says : (row generation : ℕ) → LiveSays row generation (findLive a row generation)
+  unfolding findLive
+  live-says row generation = go (find row [] (a .shelves)) (find-at row [] (a .shelves)) where
+    go : (o : Option Found) → FoundAt row (a .shelves) (a .shelves) o → LiveSays row generation (elim o [ none ↦ none | some w ↦ pick (names row generation (w .item .this)) (some w) none ])
+    go none out = elim (decLt row (a .rows .items .used)) [ yes b ↦ dead row generation b out | no b ↦ unused row generation (omega arith) ]
+    go (some w) found =
+        pick-cases (LiveSays row generation) (names row generation (w .item .this)) (some w) none
+        (λ e. (live-same w row generation found ∙ e, found, named-live row generation w e)) (λ e. live-same w row generation found ∙ e)

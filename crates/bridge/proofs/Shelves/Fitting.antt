@@ -1,0 +1,43 @@
+-- The shelf of a grant: split where the rules split it, else left as it is. Assumes nothing.
+use Rattle.numbers.specs.Library.{ℕ, _<_, _≤_, _+_, _^_, _≡_, refl, true, false, List, _∷_, arith, ltb-true}
+use Rattle.numbers.specs.Prelude.{pick, largeEnoughToSplit, both}
+use Rattle.numbers.specs.declared.request.Asked.{Asked}
+use Rattle.chains.specs.Prelude.{backOnto}
+use Rattle.rows.specs.Prelude.{rows, get, items, shelves}
+use Rattle.rules.specs.Prelude.{Shelf, Atlas, isEmpty, splitsShelf, upperPart, lowerPart, shelfTaken, itemTaken, rowsLeft}
+use Rattle.shelf_edits.specs.State.{State}
+use Rattle.search.specs.Search.{shelfIsEmpty}
+use Rattle.spare.specs.Spare.{splitsShelf as splitsRow}
+use Rattle.grant.specs.Grant.{fitShelf}
+use Rattle.shelf_edits.specs.ShelfEdits.{splitShelf}
+use Rattle.bridge.proofs.Items.Standing.{Stands, onRow, shelf-says}
+use Rattle.bridge.proofs.Shelves.Leads.{Leads}
+use Rattle.rules.proofs.Flags.{flag-one}
+use Rattle.bridge.proofs.Shelves.Empty.{lone-item}
+use Rattle.bridge.proofs.Shelves.Split.{split-leads}
+
+-- the step as a choice
+fit-step : (st : State) (on : ℕ) (asked : Asked)
+    → fitShelf st (onRow on) asked ≡ pick (splitsRow asked (get shelves (st .shelves) on)) (splitShelf st (onRow on) (asked .depth)) st
+unfolding fitShelf
+fit-step st on asked = refl
+
+module _ (st : State) (a : Atlas) (bs : List Shelf) (s : Shelf) (ys : List Shelf) (asked : Asked) (are : a .shelves ≡ backOnto bs (s ∷ ys)) (stands : Stands st a) where
+  -- it is split or not as the rules say
+  pub splits-shelf-same : splitsRow asked (get shelves (st .shelves) (s .row)) ≡ splitsShelf asked s
+  unfolding splitsRow splitsShelf shelfIsEmpty
+  splits-shelf-same = rw (shelf-says st a stands bs s ys are) (rw (flag-one (isEmpty (s .items))))
+
+  pub fit-whole : splitsShelf asked s ≡ false → fitShelf st (onRow (s .row)) asked ≡ st
+  fit-whole e = rw (fit-step, splits-shelf-same, e)
+
+  pub fit-split : splitsShelf asked s ≡ true → s .y + s .depth < 2 ^ 16
+      → 0 < rowsLeft (rows shelves (st .shelves)) (a .rows .shelves) → 0 < rowsLeft (rows items (st .items)) (a .rows .items)
+      → Leads st (fitShelf st (onRow (s .row)) asked)
+      (record { limits = a .limits; shelves = backOnto bs (upperPart (asked .depth) s ∷ lowerPart (a .limits) (a .rows) (asked .depth) s ∷ ys); rows = itemTaken (shelfTaken (a .rows)) })
+  unfolding splitsShelf
+  fit-split e low shelf-left item-left =
+      let (empty, large) = both (isEmpty (s .items)) (largeEnoughToSplit (asked .depth) (s .depth)) e in
+      let (i, lone, is-free) = lone-item (s .items) empty in
+      let within : asked .depth ≤ s .depth = omega (arith, ltb-true (asked .depth + 8) (s .depth) large) in
+      rw (fit-step, splits-shelf-same, e) (split-leads st a bs s ys i (asked .depth) are lone is-free within low stands shelf-left item-left)

@@ -1,1 +1,0 @@
-// What is found in tables in which an atlas lies; no code.

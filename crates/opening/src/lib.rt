@@ -1,1 +1,0 @@
-// The theory of a shelf opened has no code.

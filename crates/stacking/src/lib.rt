@@ -1,1 +1,0 @@
-// The theory of the shelf chain has no code.
