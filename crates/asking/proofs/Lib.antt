@@ -1,4 +1,0 @@
-pub mod Cases
-pub mod Listed
-pub mod Walked
-pub mod Outcomes

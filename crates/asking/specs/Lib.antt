@@ -1,4 +1,0 @@
-pub mod Answers
-pub mod Records
-pub mod Listing
-pub mod Promises

@@ -1,0 +1,5 @@
+pub mod Answers
+pub mod Answering
+pub mod Records
+pub mod Promises
+pub mod Prelude
