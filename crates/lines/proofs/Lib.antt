@@ -1,3 +1,1 @@
-pub mod Numerals
 pub mod Words
-pub mod Digits

@@ -1,25 +1,16 @@
 -- The laws of words and commands that the proofs of reading a line cite. Assumes nothing.
-use Prim.Native.Nat.{ℕ, suc, _+_, _-_, _≤_, _<_}
-use native.Mathlib.Omega.{arith}
-use native.Mathlib.Numerals.{add-one}
-use mathlib.Core.Path.{_≡_, refl, sym, ap, _∙_}
-use mathlib.Core.Bool.{Bool, true, false, and-false}
-use mathlib.Core.List.{List, [], _∷_, _++_, append-assoc, append-nil}
-use lib.ListN.{length, getD, take, drop, length-append, drop-of-length-le}
-use lib.Seq.{drop-cons, drop-drop, length-take-le, getD-take, take-all}
-use lib.Dec.{eqb}
-use lib.IntN.{ℤ, pos}
+use Rattle.numbers.specs.Library.{ℕ, suc, _+_, _-_, _≤_, _<_, arith, add-one, _≡_, refl, sym, ap, _∙_, Bool, true, false, and-false, List, [], _∷_, _++_}
+use Rattle.numbers.specs.Library.{append-assoc, append-nil, length, getD, take, drop, length-append, drop-cons, length-take-le, take-all, eqb, ℤ, pos, w32, toZ}
+use Rattle.numbers.specs.Library.{ofZ, toZ-ofZ, eq-eqb, ne-eqb, le-leb, lt-leb}
+use lib.ListN.{drop-of-length-le}
+use lib.Seq.{drop-drop, getD-take}
 use lib.Signed.{mag}
-use mir.Syntax.{w32}
-use mir.Val.{toZ, ofZ}
-use mir.Facts.{toZ-ofZ}
-use borrow.Author.Tests.{eq-eqb, ne-eqb, le-leb, lt-leb}
-use Rattle.numbers.specs.Pick.{pick}
-use Rattle.numbers.specs.Sides.{oneTo}
-use Rattle.lines.specs.Numeral.{numberOf}
-use Rattle.lines.specs.Line.{words, onFirst, firstWord, Numbers, none, all, onNumbers, withNumber, numbersOf, at, createArgs, ofSix, ofTwo, ofNone, ofLetter, ofNumbers, ofWords, saidBy, commandOf}
-use Rattle.lines.specs.declared.numeral.Number.{Number}
-use Rattle.lines.specs.declared.numeral.Number.the-variants.{NoNumber, Is}
+use Rattle.numbers.specs.Prelude.{pick, oneTo}
+use Rattle.numerals.specs.Numeral.{numberOf}
+use Rattle.lines.specs.Line.{words, onFirst, firstWord, Numbers, none, all, onNumbers, withNumber, numbersOf, at, createArgs, ofSix, ofTwo, ofNone}
+use Rattle.lines.specs.Line.{ofLetter, ofNumbers, ofWords, saidBy, commandOf}
+use Rattle.numerals.specs.declared.Number.{Number}
+use Rattle.numerals.specs.declared.Number.the-variants.{NoNumber, Is}
 use Rattle.lines.specs.declared.command.Command.the-variants.{Bad}
 
 -- ---- by the count of numbers

@@ -1,14 +1,6 @@
 -- A row or a generation as a line gives it. Assumes nothing.
-use Prim.Native.Nat.{_≤_, _<_}
-use mathlib.Core.Path.{_≡_, refl, sym}
-use mathlib.Core.Bool.{true, false, false≢true}
-use native.Mathlib.Omega.{arith}
-use lib.Dec.{leb}
-use lib.IntN.{ℤ, pos, negsuc}
-use lib.Signed.{ltZ}
-use borrow.Author.Tests.{ltb-true, le-leb, lt-leb}
-use Rattle.numbers.specs.Pick.{pick}
-use Rattle.numbers.specs.Sides.{natural}
+use Rattle.numbers.specs.Library.{_≤_, _<_, _≡_, refl, sym, true, false, false≢true, arith, leb, ℤ, pos, negsuc, ltZ, ltb-true, le-leb, lt-leb}
+use Rattle.numbers.specs.Prelude.{pick, natural}
 use Rattle.lines.specs.declared.ids.Named.{Named}
 use Rattle.lines.specs.declared.ids.Named.the-variants.{Row, Outside}
 

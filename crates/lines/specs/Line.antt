@@ -1,16 +1,10 @@
 -- What a script line says: a letter, then its numbers, with one space before each. Assumes nothing.
-use Prim.Native.Nat.{ℕ}
-use mathlib.Core.List.{List, [], _∷_}
-use lib.ListN.{length, getD}
-use lib.Dec.{eqb}
-use lib.IntN.{ℤ, pos}
-use Rattle.numbers.specs.Pick.{pick}
-use Rattle.numbers.specs.Sides.{oneTo}
-use Rattle.lines.specs.Numeral.{numberOf}
-use Rattle.lines.specs.declared.numeral.Number.{Number}
-use Rattle.lines.specs.declared.numeral.Number.the-variants.{NoNumber, Is}
-use Rattle.lines.specs.declared.command.CreateArgs.{CreateArgs}
-use Rattle.lines.specs.declared.command.Command.{Command}
+use Rattle.numbers.specs.Library.{ℕ, List, [], _∷_, length, getD, eqb, ℤ, pos}
+use Rattle.numbers.specs.Prelude.{pick, oneTo}
+use Rattle.numerals.specs.Numeral.{numberOf}
+use Rattle.numerals.specs.declared.Number.{Number}
+use Rattle.numerals.specs.declared.Number.the-variants.{NoNumber, Is}
+use Rattle.lines.specs.declared.{command.CreateArgs.CreateArgs, command.Command.Command}
 use Rattle.lines.specs.declared.command.Command.the-variants.{Bad, Create, Ask, Release, Look, Space, List as Listing, Clear}
 
 -- ---- words

@@ -1,7 +1,4 @@
-// The text of the script program: a line into a command, and an answer into text. No table is read here.
-pub mod answer;
+// A line of the script program into a command. No table is read here.
 pub mod command;
 pub mod ids;
-pub mod numeral;
 pub mod read;
-pub mod text;

@@ -5,8 +5,8 @@ ghost use lib.ListN.{length, drop, take};
 ghost use Rattle.lines.specs.Line.{firstWord, ofSix, ofTwo, ofNone, ofLetter, saidBy, commandOf};
 use crate::command::Command;
 use crate::command::CreateArgs;
-use crate::numeral::Number;
-use crate::numeral::read_number;
+use numerals::Number;
+use numerals::read_number;
 
 const LONGEST_LINE: usize = 80;
 

@@ -1,15 +1,10 @@
 -- A negative number of 32 bits, negated in 64. Assumes nothing.
-use Prim.Native.Nat.{zero, suc}
-use native.Mathlib.Omega.{arith}
-use mathlib.Core.Path.{_≡_}
-use mathlib.Core.Bool.{true}
+use Rattle.numbers.specs.Library.{zero, suc, arith, _≡_, true, ℤ, pos, negsuc, negℤ, ltZ, w32, w64, SFits, ltb-true}
 use lib.Dec.{T}
-use lib.IntN.{ℤ, pos, negsuc, negℤ, natAbs, _-ℤ_, +ℤ-idl}
-use lib.Signed.{ltZ, nonNeg}
-use mir.Syntax.{w32, w64}
-use mir.Val.{Fits, SFits}
+use lib.IntN.{natAbs, _-ℤ_, +ℤ-idl}
+use lib.Signed.{nonNeg}
+use mir.Val.{Fits}
 use mir.Facts.{sfits-lit}
-use borrow.Author.Tests.{ltb-true}
 
 pub flip : (z : ℤ) → pos 0 -ℤ z ≡ negℤ z
 flip z = +ℤ-idl (negℤ z)

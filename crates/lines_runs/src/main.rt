@@ -1,19 +1,35 @@
 // Reads a table of lines from standard input, and writes the command of each in a short form: its letter and its numbers, or "bad".
-// Then one answer of each kind, with small numbers and with the largest.
+// Then it writes a table of answers, each kind with small numbers and with the largest.
 use libc::STDIN_FILENO;
 use libc::STDOUT_FILENO;
-use lines::answer::Answer;
-use lines::answer::put_answer;
 use lines::command::Command;
 use lines::command::CreateArgs;
 use lines::read::read_line;
-use lines::text::put_byte;
-use lines::text::put_number;
-use lines::text::put_text;
 use numbers::sides::natural_of;
 use rows::live::Live;
+use texts::answer::Answer;
+use texts::answer::put_answer;
+use texts::text::put_byte;
+use texts::text::put_number;
+use texts::text::put_text;
 ghost use Prim.Native.Nat.{_≤_};
 ghost use lib.ListN.{length};
+
+// An answer's kind, and three numbers of which it takes as many as it has.
+const ANSWERS: [[u32; 4]; 12] = [
+    [0, 0, 0, 0],
+    [1, 2, 0, 0],
+    [1, 65535, 0, 0],
+    [2, 0, 1, 32],
+    [2, 65535, 65535, 65535],
+    [3, 2176, 4192128, 0],
+    [3, 4294967295, 0, 0],
+    [4, 2, 1, 9],
+    [5, 2, 0, 0],
+    [5, 4294967295, 0, 0],
+    [6, 11, 0, 0],
+    [6, 8, 0, 0],
+];
 
 // A number without its sign.
 fn magnitude(z: i32) -> u32 {
@@ -32,36 +48,50 @@ fn put_signed(out: &mut [u8], at: usize, z: i32) -> usize {
     put_number(out, a, magnitude(z))
 }
 
-fn put_two(out: &mut [u8], letter: u8, x: i32, y: i32) -> usize {
-    let a = put_byte(out, 0, letter);
-    let b = put_signed(out, a, x);
-    let c = put_signed(out, b, y);
-    put_byte(out, c, b'\n')
+fn put_words(out: &mut [u8], letter: u8, numbers: &[i32]) -> usize {
+    let mut end = put_byte(out, 0, letter);
+    let mut i: usize = 0;
+    while i < numbers.len() {
+        end = put_signed(out, end, numbers[i]);
+        i += 1;
+    }
+    put_byte(out, end, b'\n')
 }
 
-fn put_three(out: &mut [u8], at: usize, x: i32, y: i32, z: i32) -> usize {
-    let a = put_signed(out, at, x);
-    let b = put_signed(out, a, y);
-    put_signed(out, b, z)
+fn put_letter(out: &mut [u8], letter: u8) -> usize {
+    let end = put_byte(out, 0, letter);
+    put_byte(out, end, b'\n')
+}
+
+fn put_pair(out: &mut [u8], letter: u8, x: i32, y: i32) -> usize {
+    put_words(out, letter, &[x, y])
 }
 
 fn put_create(out: &mut [u8], args: CreateArgs) -> usize {
-    let a = put_byte(out, 0, b'n');
-    let b = put_three(out, a, args.w, args.h, args.align_w);
-    let c = put_three(out, b, args.align_h, args.vertical, args.columns);
-    put_byte(out, c, b'\n')
+    put_words(
+        out,
+        b'n',
+        &[
+            args.w,
+            args.h,
+            args.align_w,
+            args.align_h,
+            args.vertical,
+            args.columns,
+        ],
+    )
 }
 
 fn put_command(out: &mut [u8], command: Command) -> usize {
     match command {
         Command::Bad => put_text(out, 0, b"bad\n"),
         Command::Create(args) => put_create(out, args),
-        Command::Ask(x, y) => put_two(out, b'a', x, y),
-        Command::Release(x, y) => put_two(out, b'r', x, y),
-        Command::Look(x, y) => put_two(out, b'g', x, y),
-        Command::Space => put_text(out, 0, b"s\n"),
-        Command::List => put_text(out, 0, b"l\n"),
-        Command::Clear => put_text(out, 0, b"c\n"),
+        Command::Ask(x, y) => put_pair(out, b'a', x, y),
+        Command::Release(x, y) => put_pair(out, b'r', x, y),
+        Command::Look(x, y) => put_pair(out, b'g', x, y),
+        Command::Space => put_letter(out, b's'),
+        Command::List => put_letter(out, b'l'),
+        Command::Clear => put_letter(out, b'c'),
     }
 }
 
@@ -97,38 +127,50 @@ fn show_lines(text: &[u8]) {
     }
 }
 
-fn answer(a: Answer) {
+fn narrow(n: u32) -> u16 {
+    (n % 65536) as u16
+}
+
+fn live(row: u32, generation: u32, far: u32) -> Live {
+    Live {
+        row: narrow(row),
+        generation: narrow(generation),
+        x0: 0,
+        y0: narrow(far),
+        x1: 10,
+        y1: narrow(far),
+    }
+}
+
+fn answer_of(numbers: [u32; 4]) -> Answer {
+    let a = numbers[1];
+    let b = numbers[2];
+    let c = numbers[3];
+    match numbers[0] {
+        0 => Answer::Done,
+        1 => Answer::Made(narrow(a)),
+        2 => Answer::Item(live(a, b, c)),
+        3 => Answer::Space(a, b),
+        4 => Answer::Listed(live(a, b, c)),
+        5 => Answer::End(a),
+        _ => Answer::No(narrow(a)),
+    }
+}
+
+fn show_answer(answer: Answer) {
     let mut out = [0u8; 64];
-    let n = put_answer(&mut out, 0, a);
+    let n = put_answer(&mut out, 0, answer);
     if n <= 64 {
         io::write_all(STDOUT_FILENO, &out[0..n]);
     }
 }
 
-fn live(row: u16, generation: u16, far: u16) -> Live {
-    Live {
-        row,
-        generation,
-        x0: 0,
-        y0: far,
-        x1: 10,
-        y1: far,
-    }
-}
-
 fn show_answers() {
-    answer(Answer::Done);
-    answer(Answer::Made(2));
-    answer(Answer::Made(65535));
-    answer(Answer::Item(live(0, 1, 32)));
-    answer(Answer::Item(live(65535, 65535, 65535)));
-    answer(Answer::Space(2176, 4192128));
-    answer(Answer::Space(4294967295, 0));
-    answer(Answer::Listed(live(2, 1, 9)));
-    answer(Answer::End(2));
-    answer(Answer::End(4294967295));
-    answer(Answer::No(11));
-    answer(Answer::No(8));
+    let mut i: usize = 0;
+    while i < 12 {
+        show_answer(answer_of(ANSWERS[i]));
+        i += 1;
+    }
 }
 
 fn main() {

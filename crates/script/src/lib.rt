@@ -1,22 +1,18 @@
 // One step of the script program: a line in, the text of its answer out, and the state after it.
 ghost use Rattle.lines.specs.Line.{commandOf};
-ghost use Rattle.script.specs.Step.{Steps, Doing};
-
-pub mod answers;
-pub mod calls;
-pub mod ids;
-pub mod list;
-pub mod tell;
-
+ghost use Rattle.script_rules.specs.Step.{Steps, Doing};
 use lines::command::Command;
 use lines::read::read_line;
 use rows::header::Header;
-
-// The header after a line, and the place after the text of its answer.
-pub struct Stepped {
-    pub header: Header,
-    pub at: usize,
-}
+use script_calls::on_ask;
+use script_calls::on_clear;
+use script_calls::on_create;
+use script_calls::on_release;
+use script_rules::Stepped;
+use script_tells::list::on_list;
+use script_tells::tell::on_bad;
+use script_tells::tell::on_look;
+use script_tells::tell::on_space;
 
 // Answers one line, without its newline. The text goes into `out` from `at` on; of an answer that has no room there, the end is missing.
 pub fn step(
@@ -32,28 +28,28 @@ pub fn step(
     let command = read_line(line);
     match command {
         Command::Bad => {
-            return tell::bad(h, shelves, items, out, at);
+            return on_bad(h, shelves, items, out, at);
         }
         Command::Create(args) => {
-            return calls::create(h, shelves, items, args, out, at);
+            return on_create(h, shelves, items, args, out, at);
         }
         Command::Ask(w, height) => {
-            return calls::ask(h, shelves, items, w, height, out, at);
+            return on_ask(h, shelves, items, w, height, out, at);
         }
         Command::Release(row, generation) => {
-            return calls::release(h, shelves, items, row, generation, out, at);
+            return on_release(h, shelves, items, row, generation, out, at);
         }
         Command::Look(row, generation) => {
-            return tell::look(h, shelves, items, row, generation, out, at);
+            return on_look(h, shelves, items, row, generation, out, at);
         }
         Command::Space => {
-            return tell::space(h, shelves, items, out, at);
+            return on_space(h, shelves, items, out, at);
         }
         Command::List => {
-            return list::list(h, shelves, items, out, at);
+            return on_list(h, shelves, items, out, at);
         }
         Command::Clear => {
-            return calls::clear(h, shelves, items, out, at);
+            return on_clear(h, shelves, items, out, at);
         }
     }
 }

@@ -1,11 +1,5 @@
-use mathlib.Core.Path.{_≡_}
-use mathlib.Core.Bool.{true}
-use lib.IntN.{pos}
-use lib.Signed.{ltZ}
-use mir.Syntax.{w32, w64}
-use mir.Val.{toZ, ofZ}
-use mir.Facts.{toZ-ofZ, sfits-widen}
-use borrow.Author.Needs.{needs}
+use Rattle.numbers.specs.Library.{_≡_, true, pos, ltZ, w32, w64, toZ, ofZ, toZ-ofZ, needs}
+use mir.Facts.{sfits-widen}
 use Rattle.lines_runs.proofs.Signs.{flip, flip-fits, flip-natural}
 use Rattle.lines_runs.proofs.magnitude.Statement.{statement}
 use Rattle.lines_runs.proofs.magnitude.Tie as tie

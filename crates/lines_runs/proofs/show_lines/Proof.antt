@@ -1,6 +1,4 @@
-use Prim.Native.Nat.{_-_, _≤_, _+_}
-use lib.ListN.{length}
-use borrow.Author.Needs.{needs}
+use Rattle.numbers.specs.Library.{_-_, _≤_, _+_, length, needs}
 use Rattle.lines_runs.proofs.show_lines.Statement.{statement}
 use Rattle.lines_runs.proofs.show_lines.Tie as tie
 

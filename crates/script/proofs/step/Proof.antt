@@ -1,10 +1,8 @@
-use mathlib.Core.Path.{sym, ap₂, _∙_}
-use mir.Syntax.{w32}
-use mir.Val.{SFits}
-use mir.Facts.{toZ-ofZ}
-use borrow.Author.Needs.{needs}
+-- `step`: the line is read, and its command done; each arm hands its own promise on. Assumes nothing.
+use Rattle.numbers.specs.Library.{sym, _∙_, w32, SFits, toZ-ofZ, needs}
+use mathlib.Core.Path.{ap₂}
 use Rattle.lines.specs.declared.command.Command.the-variants as command
-use Rattle.script.proofs.Told.{as-read}
+use Rattle.script_rules.proofs.Told.{as-read}
 use Rattle.script.proofs.step.Statement.{statement}
 use Rattle.script.proofs.step.Tie as tie
 
@@ -15,7 +13,7 @@ returns c =
     let at-read-line = at-enum-told .before .before in
     let start = at-read-line .before .before .before .before .before in
     let a = start .args in
-    as-read (a .h) (a .shelves .now) (a .items .now) (sym (at-read-line .read-line .ensures) ∙ at-enum-told .enum-told .given .1) (at-bad .bad .ensures)
+    as-read (a .h) (a .shelves .now) (a .items .now) (sym (at-read-line .read-line .ensures) ∙ at-enum-told .enum-told .given .1) (at-bad .on-bad .ensures)
 
 returns-2 : tie.Need-returns-2
 returns-2 c =
@@ -24,7 +22,7 @@ returns-2 c =
     let at-read-line = at-command .before .before in
     let start = at-read-line .before .before .before .before .before in
     let a = start .args in
-    as-read (a .h) (a .shelves .now) (a .items .now) (sym (at-read-line .read-line .ensures) ∙ at-command .command .given .1) (at-create .create .ensures)
+    as-read (a .h) (a .shelves .now) (a .items .now) (sym (at-read-line .read-line .ensures) ∙ at-command .command .given .1) (at-create .on-create .ensures)
 
 returns-3 : tie.Need-returns-3
 returns-3 c =
@@ -38,7 +36,7 @@ returns-3 c =
     let x : SFits w32 (g .0 .0) = record { sfits = t .0 .1 } in
     let y : SFits w32 (g .0 .1 .0) = record { sfits = t .1 .0 .1 } in
     let a = start .args in
-    as-read (a .h) (a .shelves .now) (a .items .now) (sym (at-read-line .read-line .ensures) ∙ g .1 ∙ ap₂ command.Ask (sym (toZ-ofZ x)) (sym (toZ-ofZ y))) (at-ask .ask .ensures)
+    as-read (a .h) (a .shelves .now) (a .items .now) (sym (at-read-line .read-line .ensures) ∙ g .1 ∙ ap₂ command.Ask (sym (toZ-ofZ x)) (sym (toZ-ofZ y))) (at-ask .on-ask .ensures)
 
 returns-4 : tie.Need-returns-4
 returns-4 c =
@@ -52,7 +50,7 @@ returns-4 c =
     let x : SFits w32 (g .0 .0) = record { sfits = t .0 .1 } in
     let y : SFits w32 (g .0 .1 .0) = record { sfits = t .1 .0 .1 } in
     let a = start .args in
-    as-read (a .h) (a .shelves .now) (a .items .now) (sym (at-read-line .read-line .ensures) ∙ g .1 ∙ ap₂ command.Release (sym (toZ-ofZ x)) (sym (toZ-ofZ y))) (at-release .release .ensures)
+    as-read (a .h) (a .shelves .now) (a .items .now) (sym (at-read-line .read-line .ensures) ∙ g .1 ∙ ap₂ command.Release (sym (toZ-ofZ x)) (sym (toZ-ofZ y))) (at-release .on-release .ensures)
 
 returns-5 : tie.Need-returns-5
 returns-5 c =
@@ -66,7 +64,7 @@ returns-5 c =
     let x : SFits w32 (g .0 .0) = record { sfits = t .0 .1 } in
     let y : SFits w32 (g .0 .1 .0) = record { sfits = t .1 .0 .1 } in
     let a = start .args in
-    as-read (a .h) (a .shelves .now) (a .items .now) (sym (at-read-line .read-line .ensures) ∙ g .1 ∙ ap₂ command.Look (sym (toZ-ofZ x)) (sym (toZ-ofZ y))) (at-look .look .ensures)
+    as-read (a .h) (a .shelves .now) (a .items .now) (sym (at-read-line .read-line .ensures) ∙ g .1 ∙ ap₂ command.Look (sym (toZ-ofZ x)) (sym (toZ-ofZ y))) (at-look .on-look .ensures)
 
 returns-6 : tie.Need-returns-6
 returns-6 c =
@@ -75,7 +73,7 @@ returns-6 c =
     let at-read-line = at-enum-told2 .before .before in
     let start = at-read-line .before .before .before .before .before in
     let a = start .args in
-    as-read (a .h) (a .shelves .now) (a .items .now) (sym (at-read-line .read-line .ensures) ∙ at-enum-told2 .enum-told2 .given .1) (at-space .space .ensures)
+    as-read (a .h) (a .shelves .now) (a .items .now) (sym (at-read-line .read-line .ensures) ∙ at-enum-told2 .enum-told2 .given .1) (at-space .on-space .ensures)
 
 returns-7 : tie.Need-returns-7
 returns-7 c =
@@ -84,7 +82,7 @@ returns-7 c =
     let at-read-line = at-enum-told3 .before .before in
     let start = at-read-line .before .before .before .before .before in
     let a = start .args in
-    as-read (a .h) (a .shelves .now) (a .items .now) (sym (at-read-line .read-line .ensures) ∙ at-enum-told3 .enum-told3 .given .1) (at-list .list .ensures)
+    as-read (a .h) (a .shelves .now) (a .items .now) (sym (at-read-line .read-line .ensures) ∙ at-enum-told3 .enum-told3 .given .1) (at-list .on-list .ensures)
 
 returns-8 : tie.Need-returns-8
 returns-8 c =
@@ -93,7 +91,7 @@ returns-8 c =
     let at-read-line = at-enum-told4 .before .before in
     let start = at-read-line .before .before .before .before .before in
     let a = start .args in
-    as-read (a .h) (a .shelves .now) (a .items .now) (sym (at-read-line .read-line .ensures) ∙ at-enum-told4 .enum-told4 .given .1) (at-clear .clear .ensures)
+    as-read (a .h) (a .shelves .now) (a .items .now) (sym (at-read-line .read-line .ensures) ∙ at-enum-told4 .enum-told4 .given .1) (at-clear .on-clear .ensures)
 
 pub step-spec : {M : Type 1} → statement M
 step-spec =

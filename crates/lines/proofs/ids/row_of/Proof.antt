@@ -1,13 +1,5 @@
-use mathlib.Core.Path.{_≡_, sym, ap, _∙_}
-use mathlib.Core.Bool.{true, false}
-use native.Mathlib.Omega.{arith}
-use lib.IntN.{pos}
-use lib.Signed.{ltZ}
-use mir.Syntax.{w32}
-use mir.Val.{toZ, ofZ}
-use mir.Facts.{toZ-ofZ}
-use borrow.Author.Needs.{needs}
-use Rattle.numbers.specs.Sides.{natural}
+use Rattle.numbers.specs.Library.{_≡_, sym, ap, _∙_, true, false, arith, pos, ltZ, w32, toZ, ofZ, toZ-ofZ, needs}
+use Rattle.numbers.specs.Prelude.{natural}
 use Rattle.lines.specs.declared.ids.Named.the-variants.{Row}
 use Rattle.lines.specs.Ids.{row-negative, row-beyond, row-within}
 use Rattle.lines.proofs.ids.row_of.Statement.{statement}

@@ -1,6 +1,5 @@
-use native.Mathlib.Omega.{arith}
-use mathlib.Core.Path.{sym, _∙_}
-use borrow.Author.Needs.{needs}
+-- `of_letter`: by the count of the numbers, a command with none, two or six of them; any other count is no command. Assumes nothing.
+use Rattle.numbers.specs.Library.{arith, sym, _∙_, needs}
 use Rattle.lines.specs.Line.{at, createArgs}
 use Rattle.lines.proofs.Words.{by-six, by-two, by-none, by-count, back}
 use Rattle.lines.proofs.read.of_letter.Statement.{statement}

@@ -1,5 +1,5 @@
+use Rattle.numbers.specs.Library.{eq-eqb, ne-eqb}
 use Rattle.lines.specs.Line.{ofNone}
-use borrow.Author.Tests.{eq-eqb, ne-eqb}
 use Rattle.lines.proofs.read.of_none.Statement.{statement}
 use Rattle.lines.proofs.read.of_none.Tie as tie
 

@@ -1,4 +1,4 @@
-use borrow.Author.Tests.{eq-eqb, ne-eqb}
+use Rattle.numbers.specs.Library.{eq-eqb, ne-eqb}
 use Rattle.lines.specs.Line.{ofSix}
 use Rattle.lines.proofs.read.of_six.Statement.{statement}
 use Rattle.lines.proofs.read.of_six.Tie as tie

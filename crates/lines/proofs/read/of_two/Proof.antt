@@ -1,6 +1,5 @@
-use mir.Facts.{toZ-ofZ}
+use Rattle.numbers.specs.Library.{toZ-ofZ, eq-eqb, ne-eqb}
 use Rattle.lines.specs.Line.{ofTwo}
-use borrow.Author.Tests.{eq-eqb, ne-eqb}
 use Rattle.lines.proofs.read.of_two.Statement.{statement}
 use Rattle.lines.proofs.read.of_two.Tie as tie
 

@@ -1,5 +1,4 @@
-use mathlib.Core.Path.{sym, _∙_}
-use borrow.Author.Needs.{needs}
+use Rattle.numbers.specs.Library.{sym, _∙_, needs}
 use Rattle.lines.proofs.Words.{short-line, long-line}
 use Rattle.lines.proofs.read.read_line.Statement.{statement}
 use Rattle.lines.proofs.read.read_line.Tie as tie
@@ -7,11 +6,8 @@ use Rattle.lines.proofs.read.read_line.Tie as tie
 returns : tie.Need-returns
 returns c = sym (long-line (c .before .before .args .line .now) (c .if1 .taken))
 
-read-words-requires : tie.Need-read-words-requires
-read-words-requires c κs = search needs
-
 returns-2 : tie.Need-returns-2
 returns-2 c = c .read-words .ensures ∙ sym (short-line (c .before .before .before .args .line .now) (c .before .if1 .left))
 
 pub read-line-spec : {M : Type 1} → statement M
-read-line-spec = tie.close (tie.spec returns read-words-requires returns-2)
+read-line-spec = tie.close (tie.spec returns (λ c κs. search needs) returns-2)

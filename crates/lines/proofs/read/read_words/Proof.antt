@@ -1,16 +1,11 @@
-use Prim.Native.Nat.{ℕ, _+_, _-_, _≤_}
-use native.Mathlib.Omega.{arith}
-use borrow.Author.Needs.{needs}
-use mathlib.Core.Path.{_≡_, refl, sym, ap, _∙_, subst}
+-- `read_words`: the words so far are numbers and kept in order, and the command of the line is what they and the rest of it make (`Claim`). Assumes nothing.
+use Rattle.numbers.specs.Library.{ℕ, _+_, _-_, _≤_, arith, needs, _≡_, refl, sym, ap, _∙_, subst, length-take-le, length, drop, take, set, getD, length-set, ℤ}
+use Rattle.numbers.specs.Library.{List, add-one}
 use Rattle.lines.proofs.Words.{Claim, claim-start, claim-more, claim-bad, claim-full, claim-end, said-bad, word-of, back}
-use Rattle.lines.specs.Numeral.{numberOf}
+use Rattle.numerals.specs.Numeral.{numberOf}
 use Rattle.lines.specs.Line.{firstWord}
-use Rattle.lines.specs.declared.numeral.Number.the-variants.{NoNumber, Is}
-use lib.Seq.{length-take-le, take-suc-set}
-use lib.ListN.{length, drop, take, set, getD, length-set}
-use lib.IntN.{ℤ}
-use mathlib.Core.List.{List}
-use native.Mathlib.Numerals.{add-one}
+use Rattle.numerals.specs.declared.Number.the-variants.{NoNumber, Is}
+use lib.Seq.{take-suc-set}
 use Rattle.lines.proofs.read.read_words.Statement.{statement}
 use Rattle.lines.proofs.read.read_words.Tie as tie
 
@@ -21,17 +16,11 @@ Inv-loop line first letter numbers₀ count₀ at₀ numbers count at =
 abbrev μ-loop : tie.MeasureT-loop
 μ-loop line first letter numbers₀ count₀ at₀ numbers count at = length line - at
 
-word-end-requires : tie.Need-word-end-requires Inv-loop μ-loop
-word-end-requires c κs = search needs
-
 returns : tie.Need-returns Inv-loop μ-loop
 returns c =
     let l = c .before .before .before .args .line .now in
     let q : c .before .word-end .result ≡ 0 + length (firstWord l) = c .before .word-end .ensures .0 in
     sym (said-bad l (λ e. c .if1 .taken (omega arith)))
-
-shared-slice-read-letter : tie.Need-shared-slice-read-letter Inv-loop μ-loop
-shared-slice-read-letter c = search needs
 
 loop-holds : tie.Need-loop-holds Inv-loop μ-loop
 loop-holds c =
@@ -49,27 +38,6 @@ returns-2 c =
     let n : length (take (p .count) (p .numbers)) ≡ p .count = length-take-le (p .count) (p .numbers) (omega arith) in
     sym (claim-full l _ (take (p .count) (p .numbers)) (p .at) (p .inv .3) (c .before .loop-test .taken) (omega arith))
 
-add-from : tie.Need-add-from Inv-loop μ-loop
-add-from c = search needs
-
-word-end-requires-2 : tie.Need-word-end-requires-2 Inv-loop μ-loop
-word-end-requires-2 c κs = search needs
-
-sub-read-number : tie.Need-sub-read-number Inv-loop μ-loop
-sub-read-number c = search needs
-
-part-read-number-start : tie.Need-part-read-number-start Inv-loop μ-loop
-part-read-number-start c = search needs
-
-part-read-number-end : tie.Need-part-read-number-end Inv-loop μ-loop
-part-read-number-end c = search needs
-
-read-number-requires : tie.Need-read-number-requires Inv-loop μ-loop
-read-number-requires c κs = search needs
-
-enum-told : tie.Need-enum-told Inv-loop μ-loop
-enum-told c = search needs
-
 returns-3 : tie.Need-returns-3 Inv-loop μ-loop
 returns-3 c =
     let at-read-number = c .before .before in
@@ -83,21 +51,6 @@ returns-3 c =
     let r : at-read-number .read-number .result ≡ numberOf (take (at-word-end2 .word-end2 .result - (p .at + 1)) (drop (p .at + 1) l)) = at-read-number .read-number .ensures in
     let w : numberOf (firstWord (drop (p .at + 1) l)) ≡ NoNumber = ap numberOf (sym (word-of l (p .at + 1) _ q)) ∙ sym r ∙ c .enum-told .given .1 in
     sym (claim-bad l _ (take (p .count) (p .numbers)) (p .at) (p .inv .3) _ (at-loop-test .loop-test .taken) q w)
-
-enum-known-w : tie.Need-enum-known-w Inv-loop μ-loop
-enum-known-w c = search needs
-
-mul-numbers : tie.Need-mul-numbers Inv-loop μ-loop
-mul-numbers c = search needs
-
-array-set-from-numbers : tie.Need-array-set-from-numbers Inv-loop μ-loop
-array-set-from-numbers c = search needs
-
-add-count : tie.Need-add-count Inv-loop μ-loop
-add-count c = search needs
-
-loop-less : tie.Need-loop-less Inv-loop μ-loop
-loop-less c = search needs
 
 loop-again : tie.Need-loop-again Inv-loop μ-loop
 loop-again c =
@@ -120,12 +73,6 @@ loop-again c =
       subst (λ (zs : List ℤ). Claim l (getD l 0 0) zs (at-word-end2 .word-end2 .result)) (sym (take-suc-set (p .numbers) (p .count) z (omega arith)) ∙ ap (λ (m : ℕ). take m (set (p .numbers) (p .count) z)) (sym (add-one (p .count)))) k,
     )
 
-slice-aggregate-of-letter : tie.Need-slice-aggregate-of-letter Inv-loop μ-loop
-slice-aggregate-of-letter c = search needs
-
-of-letter-requires : tie.Need-of-letter-requires Inv-loop μ-loop
-of-letter-requires c κs = search needs
-
 returns-4 : tie.Need-returns-4 Inv-loop μ-loop
 returns-4 c =
     let l = c .before .before .before .before .before .before .before .before .args .line .now in
@@ -138,25 +85,25 @@ read-words-spec =
     (tie.spec
     Inv-loop
     μ-loop
-    word-end-requires
+    (λ c κs. search needs)
     returns
-    shared-slice-read-letter
+    (λ c. search needs)
     loop-holds
     returns-2
-    add-from
-    word-end-requires-2
-    sub-read-number
-    part-read-number-start
-    part-read-number-end
-    read-number-requires
-    enum-told
+    (λ c. search needs)
+    (λ c κs. search needs)
+    (λ c. search needs)
+    (λ c. search needs)
+    (λ c. search needs)
+    (λ c κs. search needs)
+    (λ c. search needs)
     returns-3
-    enum-known-w
-    mul-numbers
-    array-set-from-numbers
-    add-count
-    loop-less
+    (λ c. search needs)
+    (λ c. search needs)
+    (λ c. search needs)
+    (λ c. search needs)
+    (λ c. search needs)
     loop-again
-    slice-aggregate-of-letter
-    of-letter-requires
+    (λ c. search needs)
+    (λ c κs. search needs)
     returns-4)

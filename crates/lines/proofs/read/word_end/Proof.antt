@@ -1,9 +1,5 @@
-use Prim.Native.Nat.{_+_, _-_, _≤_}
-use native.Mathlib.Omega.{arith}
-use borrow.Author.Needs.{needs}
-use borrow.Author.Tests.{eq-eqb, ne-eqb}
-use mathlib.Core.Path.{_≡_, refl}
-use lib.ListN.{length, drop, getD}
+-- `word_end`: the first word from here on ends where the first word from the start ends. Assumes nothing.
+use Rattle.numbers.specs.Library.{_+_, _-_, _≤_, arith, needs, eq-eqb, ne-eqb, _≡_, refl, length, drop, getD}
 use Rattle.lines.specs.Line.{firstWord}
 use Rattle.lines.proofs.Words.{word-stop, word-step, word-over}
 use Rattle.lines.proofs.read.word_end.Statement.{statement}
@@ -19,9 +15,6 @@ abbrev μ-loop : tie.MeasureT-loop
 loop-holds : tie.Need-loop-holds Inv-loop μ-loop
 loop-holds c = (c .pre, refl)
 
-shared-slice-read-if1 : tie.Need-shared-slice-read-if1 Inv-loop μ-loop
-shared-slice-read-if1 c = search needs
-
 returns : tie.Need-returns Inv-loop μ-loop
 returns c =
     let at-loop-test = c .before .before in
@@ -30,12 +23,6 @@ returns c =
     let l = at-loop .loop in
     let s = start .args .line .now in
     (omega (arith, l .inv .1, word-stop s (l .e) (at-loop-test .loop-test .taken) (eq-eqb (getD s (l .e) 0) 32 (c .if1 .taken))), l .inv .0)
-
-add-e : tie.Need-add-e Inv-loop μ-loop
-add-e c = search needs
-
-loop-less : tie.Need-loop-less Inv-loop μ-loop
-loop-less c = search needs
 
 loop-again : tie.Need-loop-again Inv-loop μ-loop
 loop-again c =
@@ -58,9 +45,9 @@ word-end-spec =
     Inv-loop
     μ-loop
     loop-holds
-    shared-slice-read-if1
+    (λ c. search needs)
     returns
-    add-e
-    loop-less
+    (λ c. search needs)
+    (λ c. search needs)
     loop-again
     returns-2)

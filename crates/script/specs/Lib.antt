@@ -1,4 +1,0 @@
-pub mod Answers
-pub mod Ids
-pub mod Listing
-pub mod Step

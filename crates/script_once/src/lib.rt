@@ -1,1 +1,0 @@
-// A script line has one outcome; no code.

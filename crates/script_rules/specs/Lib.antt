@@ -1,0 +1,4 @@
+pub mod Ids
+pub mod Listing
+pub mod Answers
+pub mod Step

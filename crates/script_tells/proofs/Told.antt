@@ -1,0 +1,68 @@
+-- What the commands that change nothing say: a refusal, or what is told of the atlas that is met in the tables. Assumes nothing.
+use Rattle.numbers.specs.Library.{ℕ, _≤_, _≡_, refl, Bool, true, false, not, List, _++_, length, arith, le-ltb}
+use Rattle.numbers.specs.Prelude.{Decides, spaceLeft}
+use Rattle.rows.specs.Prelude.{rows-few, items}
+use Rattle.rows.specs.declared.header.Header.{Header}
+use Rattle.rules.specs.Prelude.{mapped, atlasIn, Passes, listIn, ListIn, Totals, isCreate, tells, stepIn, stepWithout, step, Leaves, headerKept, Asks, passes}
+use Rattle.rules.specs.Prelude.{Promise}
+use Rattle.rules.specs.Step as told
+use Rattle.laws.proofs.Stored.Few.{list-few}
+use Rattle.live.specs.Live.{rowsListed}
+use Rattle.bridge.proofs.Calls.{occupied-is, free-is, list-is}
+use Rattle.promises.proofs.Cases.{unchanged, stays, fails-first, does}
+use Rattle.lines.specs.declared.command.Command.the-variants as command
+use Rattle.texts.specs.Answer.{textOf}
+use Rattle.texts.specs.Lines.{lines-then}
+use Rattle.texts.specs.declared.answer.Answer.the-variants as answer
+use Rattle.script_rules.specs.Answers.{everyRow, outcomeText}
+use Rattle.script_rules.specs.Listing.{itemLines, listText}
+use Rattle.script_rules.specs.Step.{Texts, Doing, Said, Steps}
+use Rattle.script_rules.specs.declared.Stepped.{Stepped}
+use Rattle.script_tells.specs.Listing.{Listed}
+use Rattle.script_tells.specs.declared.list.Lines.{Lines}
+
+module _ (h : Header) (S I : List ℕ) {out : List ℕ} {at : ℕ} {r : Stepped} {out′ : List ℕ} where
+  pub bad-said : Said h out at (textOf (answer.No 11)) r out′ → Steps (Doing h S I command.Bad) out at r S I out′
+  unfolding Doing Promise Asks step stepIn mapped Leaves headerKept isCreate outcomeText
+  bad-said s = record { text = textOf (answer.No 11); puts = s .puts; right = rw (s .header) (passes tt (record { says = refl; leaves = unchanged })) }
+
+  -- ---- where the audit decides
+
+  module _ {test : Bool} (d : Decides test (Passes h S I)) where
+    pub space-3 : not test ≡ true → Said h out at (textOf (answer.No 3)) r out′ → Steps (Doing h S I command.Space) out at r S I out′
+    unfolding Doing Asks stepWithout isCreate outcomeText
+    space-3 e s = record { text = textOf (answer.No 3); puts = s .puts; right = rw (s .header) (fails-first Totals (Texts (textOf (answer.No 3))) h S I d e refl refl refl) }
+
+    pub space-told : not test ≡ false → (free : ℕ) → free ≡ spaceLeft (h .limits) (h .occupied) → Said h out at (textOf (answer.Space (h .occupied) free)) r out′
+        → Steps (Doing h S I command.Space) out at r S I out′
+    unfolding Doing Asks stepIn tells outcomeText
+    space-told e free is s = record {
+      text = textOf (answer.Space (h .occupied) free);
+      puts = s .puts;
+      right = rw (s .header) (does Totals (Texts (textOf (answer.Space (h .occupied) free))) h S I d h S I e
+          (λ p. (tells (atlasIn h S I) (told.space (h .occupied) free), rw (free-is h S I p, occupied-is h S I p, ← is), refl, stays h S I p)));
+    }
+
+    pub list-3 : not test ≡ true → Said h out at (textOf (answer.No 3)) r out′ → Steps (Doing h S I command.List) out at r S I out′
+    unfolding Doing Asks stepWithout isCreate outcomeText
+    list-3 e s = record { text = textOf (answer.No 3); puts = s .puts; right = rw (s .header) (fails-first (ListIn everyRow) (Texts (textOf (answer.No 3))) h S I d e refl refl refl) }
+
+-- the lines of all items, and then their count
+module _ (h : Header) (S I : List ℕ) {test : Bool} (d : Decides test (Passes h S I)) (passed : not test ≡ false) where
+  -- a table has no more rows than the script's list has room for
+  fits : Passes h S I → length (rowsListed h S I (h .«used_items»)) ≤ everyRow
+  fits p = rw (← list-is h S I p) (omega (arith, list-few h S I p, rows-few items I))
+
+  pub list-told : {out mid : List ℕ} {at : ℕ} {r : Stepped} {out′ : List ℕ} (lines : Lines) → Listed (rowsListed h S I (h .«used_items»)) out at lines mid
+      → Said h mid (lines .at) (textOf (answer.End (lines .count))) r out′ → Steps (Doing h S I command.List) out at r S I out′
+  unfolding Doing Asks stepIn mapped listIn tells outcomeText listText
+  list-told lines l s = record {
+    text = itemLines (rowsListed h S I (h .«used_items»)) ++ textOf (answer.End (lines .count));
+    puts = lines-then (l .puts) (s .puts);
+    right = rw (s .header, l .counted) (does (ListIn everyRow) (Texts (listText (rowsListed h S I (h .«used_items»)))) h S I d h S I passed (λ p. (
+      tells (atlasIn h S I) (told.items (rowsListed h S I (h .«used_items»))),
+      rw (list-is h S I p, le-ltb everyRow (length (rowsListed h S I (h .«used_items»))) (fits p)),
+      refl,
+      stays h S I p,
+    )));
+  }
