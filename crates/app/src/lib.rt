@@ -1,121 +1,153 @@
 // The script program: reads standard input to its end, and answers each line. It holds one line, one read and the answers not yet written.
+// What is done with the bytes that were read is proved in `feed`. What is read and what is written no contract can say; here each read goes through
+// `feed` as it came, and the text of its answers is written. Where one of the two fails, a sentence on standard error says so, and the program ends.
+use feed::feed;
+use libc::STDERR_FILENO;
 use libc::STDIN_FILENO;
 use libc::STDOUT_FILENO;
 use rows::header;
 use rows::header::Header;
 use rows::item;
 use rows::shelf;
+ghost use mathlib.Core.Path.{_≡_};
 ghost use Prim.Native.Nat.{_≤_};
-ghost use lib.ListN.{length};
+ghost use lib.ListN.{length, take};
+ghost use Rattle.app.specs.Reads.{Answered, Reads};
 
 // The two tables: 512 rows for shelves and 2048 for items.
 const SHELVES: usize = 512 * shelf::NUMBERS;
 
 const ITEMS: usize = 2048 * item::NUMBERS;
-// A line's bytes that are kept; one more is enough to say that it is too long.
-const LONGEST: usize = 80;
-// Answers are written once fewer than 73,737 bytes are left, which the longest takes: 2048 lines of a list, 36 bytes each, and "end 2048".
-const FULL: usize = 57335;
+// Answers are written once fewer than 79,911 bytes are left: no answer has more (feed/proofs/Longest).
+const FULL: usize = 51161;
 
-// After an answer: the header, and where the answers end.
-struct Kept {
-    header: Header,
-    filled: usize,
-}
-
-// What is kept from read to read: the header, the bytes of the line so far (81 where it is too long), and whether to read on.
+// What is kept from read to read: the header, the bytes kept of the line, and whether to read on.
 struct Turned {
     header: Header,
     have: usize,
     more: bool,
 }
 
-// Answers the line that has ended. One that is too long is 81 bytes to the step, whatever they are.
-fn answer(
-    header: Header,
-    shelves: &mut [u16; SHELVES],
-    items: &mut [u16; ITEMS],
-    line: &[u8],
-    have: usize,
-    out: &mut [u8],
-    filled: usize,
-) -> Kept
-    requires { ⌜ have ≤ length (now line) ⌝ }
-    requires { ⌜ filled ≤ length (now out) ⌝ }
-    ensures { λ r. ⌜ r .filled ≤ length (now (out .entry)) ⌝ }
-{
-    let s = script::step(header, shelves, items, &line[0..have], out, filled);
-    let h = s.header;
-    Kept {
-        header: h,
-        filled: s.at,
+// Writes a text to standard output, unless that has failed before.
+fn hand_on(well: bool, text: &[u8]) -> bool {
+    if !well {
+        return false;
     }
+    if io::write_all(STDOUT_FILENO, text) {
+        return true;
+    }
+    io::write_all(STDERR_FILENO, b"script: standard output can't be written\n");
+    false
 }
 
-// Takes every byte of `chunk`, and writes the answers of the lines that end in it.
-fn feed(
+// Answers the lines that end in `piece`, and writes the answers. It takes all of the piece, also where writing fails.
+fn reply(
     header0: Header,
+    shelves: &mut [u16],
+    items: &mut [u16],
+    line: &mut [u8],
     have0: usize,
-    shelves: &mut [u16; SHELVES],
-    items: &mut [u16; ITEMS],
-    line: &mut [u8; 81],
-    chunk: &[u8],
+    piece: &[u8],
 ) -> Turned
+    requires { ⌜ length (now line) ≡ 81 ⌝ }
     requires { ⌜ have0 ≤ 81 ⌝ }
+    requires { ⌜ length (now items) ≡ 18432 ⌝ }
     ensures { λ r. ⌜ r .have ≤ 81 ⌝ }
+    ensures { λ r. ⌜ Answered (take have0 (now (line .entry))) (now (piece .entry)) (record { header = header0; shelves = now (shelves .entry); items = now (items .entry) }) (record { header = r .header; shelves = now (shelves .exit); items = now (items .exit) }) (take (r .have) (now (line .exit))) ⌝ }
 {
     let mut out = [0u8; 131072];
     let mut header = header0;
     let mut have = have0;
+    let mut well = true;
+    let mut taken: usize = 0;
     let mut filled: usize = 0;
-    let mut at: usize = 0;
-    while at < chunk.len() {
-        let b = chunk[at];
-        at += 1;
-        if b == b'\n' {
-            let k = answer(header, shelves, items, line, have, &mut out, filled);
-            let h = k.header;
-            header = h;
-            have = 0;
-            filled = k.filled;
-            if filled > FULL {
-                io::write_all(STDOUT_FILENO, &out[0..filled]);
-                filled = 0;
-            }
-        } else if have <= LONGEST {
-            line[have] = b;
-            have += 1;
+    while taken < piece.len() {
+        let f = feed(
+            header,
+            shelves,
+            items,
+            line,
+            have,
+            &piece[taken..],
+            &mut out,
+            filled,
+        );
+        let h = f.header;
+        header = h;
+        have = f.have;
+        taken += f.taken;
+        filled = f.filled;
+        if filled > FULL {
+            well = hand_on(well, &out[0..filled]);
+            filled = 0;
         }
     }
-    let more = io::write_all(STDOUT_FILENO, &out[0..filled]);
+    let more = hand_on(well, &out[0..filled]);
     Turned { header, have, more }
 }
 
-// Reads once and answers what came.
-fn turn(
+// The end of the input: a last line without a newline is a line if it has a byte.
+fn finish(
     header: Header,
+    shelves: &mut [u16],
+    items: &mut [u16],
+    line: &mut [u8],
     have: usize,
-    shelves: &mut [u16; SHELVES],
-    items: &mut [u16; ITEMS],
-    line: &mut [u8; 81],
 ) -> Turned
+    requires { ⌜ length (now line) ≡ 81 ⌝ }
     requires { ⌜ have ≤ 81 ⌝ }
+    requires { ⌜ length (now items) ≡ 18432 ⌝ }
     ensures { λ r. ⌜ r .have ≤ 81 ⌝ }
+    ensures { λ r. ⌜ Reads (take have (now (line .entry))) (record { header = header; shelves = now (shelves .entry); items = now (items .entry) }) (record { header = r .header; shelves = now (shelves .exit); items = now (items .exit) }) (take (r .have) (now (line .exit))) ⌝ }
 {
-    let mut buf = [0u8; 65536];
-    let got = libc::read(STDIN_FILENO, &mut buf);
-    if got <= 0 {
+    if have == 0 {
         return Turned {
             header,
             have,
             more: false,
         };
     }
-    let n = io::count(got, &buf);
-    feed(header, have, shelves, items, line, &buf[0..n])
+    let t = reply(header, shelves, items, line, have, b"\n");
+    let h = t.header;
+    Turned {
+        header: h,
+        have: t.have,
+        more: false,
+    }
 }
 
-// The whole program. A last line without a newline is a line if it has a byte.
+// Reads once, and answers what came.
+fn turn(
+    header: Header,
+    shelves: &mut [u16],
+    items: &mut [u16],
+    line: &mut [u8],
+    have: usize,
+) -> Turned
+    requires { ⌜ length (now line) ≡ 81 ⌝ }
+    requires { ⌜ have ≤ 81 ⌝ }
+    requires { ⌜ length (now items) ≡ 18432 ⌝ }
+    ensures { λ r. ⌜ r .have ≤ 81 ⌝ }
+    ensures { λ r. ⌜ Reads (take have (now (line .entry))) (record { header = header; shelves = now (shelves .entry); items = now (items .entry) }) (record { header = r .header; shelves = now (shelves .exit); items = now (items .exit) }) (take (r .have) (now (line .exit))) ⌝ }
+{
+    let mut buf = [0u8; 65536];
+    let got = libc::read(STDIN_FILENO, &mut buf);
+    if got < 0 {
+        io::write_all(STDERR_FILENO, b"script: standard input can't be read\n");
+        return Turned {
+            header,
+            have,
+            more: false,
+        };
+    }
+    if got == 0 {
+        return finish(header, shelves, items, line, have);
+    }
+    let n = io::count(got, &buf);
+    reply(header, shelves, items, line, have, &buf[0..n])
+}
+
+// The whole program.
 pub fn run() {
     let mut shelves = [0u16; SHELVES];
     let mut items = [0u16; ITEMS];
@@ -126,14 +158,10 @@ pub fn run() {
     let mut more = true;
     while turns > 0 && more {
         turns -= 1;
-        let t = turn(header, have, &mut shelves, &mut items, &mut line);
+        let t = turn(header, &mut shelves, &mut items, &mut line, have);
         let h = t.header;
         header = h;
         have = t.have;
         more = t.more;
-    }
-    if have > 0 {
-        let last = [b'\n'; 1];
-        feed(header, have, &mut shelves, &mut items, &mut line, &last);
     }
 }

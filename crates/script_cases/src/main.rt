@@ -1,4 +1,4 @@
-// The script program on the stored cases: 01's whole case and examples, the source's tests, refusals, full tables, unreadable lines.
+// The script program on generated scripts, held to the Rust's answers, and on the stored cases.
 fn main() {
     app::run();
 }

@@ -1,45 +1,27 @@
-use Prim.Native.Nat.{_≤_}
-use borrow.Author.Needs.{needs}
+-- Whenever the program reads, its state is that after some bytes were fed from the start on. Assumes nothing.
+use Rattle.numbers.specs.Library.{_≤_, _≡_, [], length, take, needs}
+use Rattle.app.specs.Reads.{Reads, answered-none, reads-then}
 use Rattle.app.proofs.run.Statement.{statement}
 use Rattle.app.proofs.run.Tie as tie
 
 abbrev Inv-loop : tie.InvT-loop
 Inv-loop shelves₀ items₀ line₀ header₀ have₀ turns₀ more₀ shelves items line header have turns more =
-    have ≤ 81
+    Reads [] (record { header = header₀; shelves = shelves₀; items = items₀ }) (record { header = header; shelves = shelves; items = items }) (take have line)
+    × (have ≤ 81) × (81 ≡ length line) × (4096 ≡ length shelves) × (18432 ≡ length items)
 
 abbrev μ-loop : tie.MeasureT-loop
 μ-loop shelves₀ items₀ line₀ header₀ have₀ turns₀ more₀ shelves items line header have turns more =
     turns
 
-no-header-requires : tie.Need-no-header-requires Inv-loop μ-loop
-no-header-requires c κs = search needs
-
 loop-holds : tie.Need-loop-holds Inv-loop μ-loop
-loop-holds c = search needs
-
-sub-turns : tie.Need-sub-turns Inv-loop μ-loop
-sub-turns c = search needs
-
-turn-requires : tie.Need-turn-requires Inv-loop μ-loop
-turn-requires c κs = search needs
-
-loop-less : tie.Need-loop-less Inv-loop μ-loop
-loop-less c = search needs
+loop-holds c = (record { bytes = _; answered = answered-none [] 0 (search needs) _ }, search needs, search needs, search needs, search needs)
 
 loop-again : tie.Need-loop-again Inv-loop μ-loop
-loop-again c = search needs
-
-slice-aggregate-feed : tie.Need-slice-aggregate-feed Inv-loop μ-loop
-slice-aggregate-feed c = search needs
-
-feed-requires : tie.Need-feed-requires Inv-loop μ-loop
-feed-requires c κs = search needs
-
-returns : tie.Need-returns Inv-loop μ-loop
-returns c = search needs
-
-returns-2 : tie.Need-returns-2 Inv-loop μ-loop
-returns-2 c = search needs
+loop-again c =
+    let at-turn = c .before .before .before .before in
+    let at-loop = at-turn .before .before .before .before .before .before in
+    let t = at-turn .turn .ensures in
+    (reads-then (at-loop .loop .inv .0) (t .1), t .0, search needs, search needs, search needs)
 
 pub run-spec : {M : Type 1} → statement M
 run-spec =
@@ -47,13 +29,14 @@ run-spec =
     (tie.spec
     Inv-loop
     μ-loop
-    no-header-requires
+    (λ c κs. search needs)
     loop-holds
-    sub-turns
-    turn-requires
-    loop-less
+    (λ c. search needs)
+    (λ c. search needs)
+    (λ c. search needs)
+    (λ c. search needs)
+    (λ c κs. search needs)
+    (λ c. search needs)
     loop-again
-    slice-aggregate-feed
-    feed-requires
-    returns
-    returns-2)
+    (λ c. search needs)
+    (λ c. search needs))
