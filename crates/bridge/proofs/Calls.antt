@@ -19,11 +19,11 @@ use Rattle.merge.specs.Merge.{releaseAt}
 use Rattle.search.specs.declared.Place.{Place}
 use Rattle.search.specs.declared.Held.the-variants.{Nothing, Good, Bad}
 use Rattle.bridge.proofs.Outcome as outcome
-use Rattle.bridge.proofs.Creating as creating
-use Rattle.bridge.proofs.Answers as answers
-use Rattle.bridge.proofs.Held as held
-use Rattle.bridge.proofs.Granted as granted
-use Rattle.bridge.proofs.Released as released
+use Rattle.bridge.proofs.CreateClear as creating
+use Rattle.bridge.proofs.Queries as answers
+use Rattle.bridge.proofs.PlaceOrRefusal as held
+use Rattle.bridge.proofs.Grant as granted
+use Rattle.bridge.proofs.Release as released
 
 -- ---- what a call leaves
 

@@ -7,7 +7,7 @@ use Rattle.rules.specs.Prelude.{Atlas, Stores, roomIn, WellFormed, Shaped, atla
 use Rattle.laws.specs.Same.{SameUsed}
 use Rattle.laws.proofs.Stored.Reading.{reads, formed, unique, passes, determined, same-shelves, same-items}
 use Rattle.shelf_edits.specs.State.{State, state}
-use Rattle.bridge.proofs.Shelves.Leads.{Leads}
+use Rattle.bridge.proofs.LeadsTo.{Leads}
 
 -- an atlas that lies in the tables and keeps its rules, with all past its used rows as it was
 pub becomes-stored : (S I : List ℕ) (h′ : Header) (S′ I′ : List ℕ) (a′ : Atlas) → Stores h′ S′ I′ a′ → WellFormed (roomIn S′ I′) a′

@@ -2,6 +2,5 @@
 pub mod Walking
 pub mod Searching
 pub mod RowsLeft
-pub mod Narrow
-pub mod Looking
+pub mod LookUp
 pub mod Listing

@@ -1,10 +1,8 @@
 -- Shelf split, shelf merges and init on the tables are those of the rules.
-pub mod Leads
-pub mod Used
-pub mod Empty
+pub mod EmptyShelf
 pub mod Fresh
-pub mod Merge
-pub mod Merging
-pub mod TakenRows
+pub mod MergeShelves
+pub mod MergeNeighbours
+pub mod NewRows
 pub mod Split
-pub mod Fitting
+pub mod FitShelf

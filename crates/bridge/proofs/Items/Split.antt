@@ -12,11 +12,11 @@ use Rattle.rules.specs.Prelude.{freedRows, Shared}
 use Rattle.wrap.specs.Wrap.{plus16-is, minus16-is}
 use Rattle.live.specs.Live.{atRow}
 use Rattle.item_edits.specs.ItemEdits.{withSpan, restOf, splitItem}
-use Rattle.bridge.proofs.Items.Views.{sights, bodyPrev, bodySpan, bodyRest, says-prev, says-span, seen-next}
+use Rattle.bridge.proofs.Items.RowViews.{sights, bodyPrev, bodySpan, bodyRest, says-prev, says-span, seen-next}
 use Rattle.rules.proofs.LiveRows.{live-row}
-use Rattle.bridge.proofs.Items.Taking.{freedRow, Fresh, fresh, taken-shared, taken-chain, item-new, item-generation}
-use Rattle.bridge.proofs.Items.Open.{Open, once, there, some, used-some, listed-row}
-use Rattle.bridge.proofs.Items.Marks.{liveOf, freeOf, rowOf, at-in, body-is}
+use Rattle.bridge.proofs.Items.PoolRows.{freedRow, Fresh, fresh, taken-shared, taken-chain, item-new, item-generation}
+use Rattle.bridge.proofs.Items.OpenShelf.{Open, once, there, some, used-some, listed-row}
+use Rattle.bridge.proofs.Items.MarkItem.{liveOf, freeOf, rowOf, at-in, body-is}
 
 module _ {I₀ I : List ℕ} {on : ℕ} {fl : List ℕ} {p : Pool Freed} {others : List ℕ} (ib : List Item) (i : Item) (ia : List Item)
     (o : Open I₀ I on (backOnto ib (i ∷ ia)) fl p others)

@@ -7,7 +7,7 @@ use Rattle.rules.specs.Prelude.{Atlas, liveOf, Found, find, liveIn, livesBelow,
 use Rattle.laws.proofs.Shape.Finding.{FoundAt, find-at}
 use Rattle.live.specs.Live.{liveAt, rowListed, rowsListed}
 use Rattle.rules.proofs.Flags.{flag-one}
-use Rattle.bridge.proofs.Search.Looking.{idle, told, allocated-says}
+use Rattle.bridge.proofs.Search.LookUp.{idle, told, allocated-says}
 
 module _ (h : Header) (S I : List ℕ) (a : Atlas) (stored : Stores h S I a) (formed : WellFormed (roomIn S I) a) where
   row-says : (r : ℕ) → r < a .rows .items .used → liveIn a r ≡ rowListed h S I r

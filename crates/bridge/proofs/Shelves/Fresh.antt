@@ -10,7 +10,7 @@ use Rattle.rows.specs.Prelude.{withFreeShelves, bodyOf, linksOf}
 use Rattle.rules.specs.Prelude.{isEmpty, liveArea, occupied, freshShelf, freshShelves, fresh, shelf, Holds, headerOf, Stores, roomIn}
 use Rattle.wrap.specs.Wrap.{times16, times16-is}
 use Rattle.init.specs.Init.{writeRows, rowBefore, rowAfter, freshShelfRow, freshItemRow, freshShelfTable, freshItemTable, freshHeader}
-use Rattle.bridge.proofs.Items.Views.{bodyLone, body-loneItem, links-loneItem}
+use Rattle.bridge.proofs.Items.RowViews.{bodyLone, body-loneItem, links-loneItem}
 
 -- ---- rows written one after another
 

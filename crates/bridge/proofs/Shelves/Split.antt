@@ -19,13 +19,12 @@ use Rattle.wrap.specs.Wrap.{plus16-is, minus16-is}
 use Rattle.shelf_edits.specs.State.{State, state}
 use Rattle.item_edits.specs.ItemEdits.{loneItem}
 use Rattle.shelf_edits.specs.ShelfEdits.{withReach, lowerOf, splitShelfTable, splitShelf}
-use Rattle.bridge.proofs.Items.Views.{reads, bodyLone, body-loneItem, links-loneItem}
-use Rattle.bridge.proofs.Items.Standing.{Stands, onRow, shelf-says}
-use Rattle.bridge.proofs.Items.Frames.{occupied-onto}
-use Rattle.bridge.proofs.Items.Taking.{shelfRow, freedRow, withPool, Fresh, taken-shared, taken-chain, shelf-shared}
-use Rattle.bridge.proofs.Shelves.Leads.{Leads}
-use Rattle.bridge.proofs.Shelves.TakenRows.{withShelfPool, shelf-is-fresh, item-is-fresh, new-shelf, new-item, both-taken, item-added}
-use Rattle.bridge.proofs.Shelves.Used.{shelf-width-is, shelf-some, shelf-there, first-used}
+use Rattle.bridge.proofs.Items.RowViews.{reads, bodyLone, body-loneItem, links-loneItem}
+use Rattle.bridge.proofs.Stands.{Stands, onRow, shelf-says, shelf-width-is, shelf-some, shelf-there, first-used}
+use Rattle.bridge.proofs.Items.SumsAndFreeLists.{occupied-onto}
+use Rattle.bridge.proofs.Items.PoolRows.{shelfRow, freedRow, withPool, Fresh, taken-shared, taken-chain, shelf-shared}
+use Rattle.bridge.proofs.LeadsTo.{Leads}
+use Rattle.bridge.proofs.Shelves.NewRows.{withShelfPool, shelf-is-fresh, item-is-fresh, new-shelf, new-item, both-taken, item-added}
 
 module _ (st : State) (a : Atlas) (bs : List Shelf) (s : Shelf) (ys : List Shelf) (j : Item) (d : ℕ)
     (are : a .shelves ≡ backOnto bs (s ∷ ys)) (lone : s .items ≡ j ∷ []) (is-free : j .live ≡ false)

@@ -13,8 +13,7 @@ use Rattle.laws.proofs.Shape.Around.{pick-cases}
 use Rattle.laws.proofs.Shape.Finding.{FoundAt, find-at}
 use Rattle.wrap.specs.Wrap.{plus16-is}
 use Rattle.live.specs.Live as table
-use Rattle.bridge.proofs.Items.Standing.{NarrowShelf}
-use Rattle.bridge.proofs.Search.Narrow.{shelf-narrow, item-narrow}
+use Rattle.bridge.proofs.Items.NoWrap.{NarrowShelf, shelf-narrow, item-narrow}
 use Rattle.rules.proofs.Flags.{flag-one}
 
 -- a row of a chain of freed rows is not live

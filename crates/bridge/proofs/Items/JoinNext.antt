@@ -12,11 +12,11 @@ use Rattle.rules.specs.Prelude.{Item, Freed, Pool, resized, freeing, item, free
 use Rattle.wrap.specs.Wrap.{plus16-is}
 use Rattle.live.specs.Live.{atRow}
 use Rattle.item_edits.specs.ItemEdits.{withSpan, joinNext}
-use Rattle.bridge.proofs.Items.Views.{sights, bodyPrev, bodySpan, says-prev, says-span, seen-next, seen-width, seen-generation}
+use Rattle.bridge.proofs.Items.RowViews.{sights, bodyPrev, bodySpan, says-prev, says-span, seen-next, seen-width, seen-generation}
 use Rattle.rules.proofs.LiveRows.{a-free, live-row}
-use Rattle.bridge.proofs.Items.Taking.{freedRow, freed-shared}
-use Rattle.bridge.proofs.Items.Open.{Open, once, there, some, listed, others-stay}
-use Rattle.bridge.proofs.Items.Marks.{liveOf, freeOf, rowOf, at-in, body-is}
+use Rattle.bridge.proofs.Items.PoolRows.{freedRow, freed-shared}
+use Rattle.bridge.proofs.Items.OpenShelf.{Open, once, there, some, listed, others-stay}
+use Rattle.bridge.proofs.Items.MarkItem.{liveOf, freeOf, rowOf, at-in, body-is}
 
 module _ {I₀ I : List ℕ} {on : ℕ} {fl : List ℕ} {p : Pool Freed} {others : List ℕ} (ib : List Item) (e s : Item) (ys : List Item)
     (o : Open I₀ I on (backOnto ib (e ∷ s ∷ ys)) fl p others) (s-out : s .row ∈ listed fl → ⊥)

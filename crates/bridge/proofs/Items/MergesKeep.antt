@@ -5,11 +5,11 @@ use Rattle.numbers.specs.Prelude.{pick}
 use Rattle.chains.specs.Prelude.{_∈_, backOnto, firstRow}
 use Rattle.chains.proofs.Prelude.{self, first-onto}
 use Rattle.rules.specs.Prelude.{Item, Pool, Rows, liveArea, replaceRow, Loose, freeItemRow, freeWith, mergeNext, mergeInto, item}
-use Rattle.bridge.proofs.Items.Frames.{area-onto, kept-in}
-use Rattle.bridge.proofs.Items.Standing.{widths, widths-onto}
-use Rattle.bridge.proofs.Items.Open.{listed}
+use Rattle.bridge.proofs.Items.SumsAndFreeLists.{area-onto, kept-in}
+use Rattle.bridge.proofs.Items.NoWrap.{widths, widths-onto}
+use Rattle.bridge.proofs.Items.OpenShelf.{listed}
 use Rattle.laws.proofs.Shape.Around.{known-no as chosen-no}
-use Rattle.bridge.proofs.Items.Loosening.{loose, chosen-yes}
+use Rattle.bridge.proofs.Items.MergeItems.{loose, chosen-yes}
 
 abbrev pub itemsOf : Loose → List Item
 itemsOf m = backOnto (m .items .before) (m .items .this ∷ m .items .after)

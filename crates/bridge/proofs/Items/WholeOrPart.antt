@@ -13,12 +13,13 @@ use Rattle.spare.specs.Spare.{splitsItem as splitsRow}
 use Rattle.item_edits.specs.ItemEdits.{markLive, splitItem, unlist, relist, firstAfter}
 use Rattle.shelf_edits.specs.ShelfEdits.{withFree}
 use Rattle.grant.specs.Grant.{useShelf, takePartItems, takePart, takeWholeItems, takeWhole, takeItem}
-use Rattle.bridge.proofs.Items.Views.{seen-width, seen-shelf}
-use Rattle.bridge.proofs.Items.Standing.{Stands, onRow, NarrowShelf}
-use Rattle.bridge.proofs.Items.Open.{Open}
-use Rattle.bridge.proofs.Items.Marks.{body-is}
-use Rattle.bridge.proofs.Items.Close.{open-shelf}
-use Rattle.bridge.proofs.Items.Granting.{occupy, whole-stands, part-stands}
+use Rattle.bridge.proofs.Items.RowViews.{seen-width, seen-shelf}
+use Rattle.bridge.proofs.Stands.{Stands, onRow}
+use Rattle.bridge.proofs.Items.NoWrap.{NarrowShelf}
+use Rattle.bridge.proofs.Items.OpenShelf.{Open}
+use Rattle.bridge.proofs.Items.MarkItem.{body-is}
+use Rattle.bridge.proofs.Items.CloseShelf.{open-shelf}
+use Rattle.bridge.proofs.Items.GrantItem.{occupy, whole-stands, part-stands}
 
 take-step : (st : State) (on row : ℕ) (a : Asked)
     → takeItem st (onRow on) (atRow row) a ≡ pick (splitsRow a (get items (st .items) row)) (takePart st (onRow on) (atRow row) (a .width)) (takeWhole st (onRow on) (atRow row))

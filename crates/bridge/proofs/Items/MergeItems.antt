@@ -13,13 +13,13 @@ use Rattle.live.specs.Live.{atRow}
 use Rattle.item_edits.specs.ItemEdits.{markFree, unlist, enlist, joinNext, firstAfter}
 use Rattle.merge_items.specs.MergeItems.{Loose as Loosened, isFreeItem, absorbNext, mergeNext as nextMerged, mergeInto as intoMerged}
 use Rattle.laws.proofs.Shape.Around.{known-no as chosen-no}
-use Rattle.bridge.proofs.Items.Views.{seen-prev, seen-next, seen-allocated, seen-nextFree}
-use Rattle.bridge.proofs.Items.Frames.{focus-of, replace-at, first-listed}
-use Rattle.bridge.proofs.Items.Standing.{widths, widths-onto}
-use Rattle.bridge.proofs.Items.Taking.{freedRow, withPool}
-use Rattle.bridge.proofs.Items.Open.{Open, some, listed, links-are}
-use Rattle.bridge.proofs.Items.Marks.{freeOf, at-in, body-is}
-use Rattle.bridge.proofs.Items.Moves.{freed-open, push-open, next-open, into-open}
+use Rattle.bridge.proofs.Items.RowViews.{seen-prev, seen-next, seen-allocated, seen-nextFree}
+use Rattle.bridge.proofs.Items.SumsAndFreeLists.{focus-of, replace-at, first-listed}
+use Rattle.bridge.proofs.Items.NoWrap.{widths, widths-onto}
+use Rattle.bridge.proofs.Items.PoolRows.{freedRow, withPool}
+use Rattle.bridge.proofs.Items.OpenShelf.{Open, some, listed, links-are}
+use Rattle.bridge.proofs.Items.MarkItem.{freeOf, at-in, body-is}
+use Rattle.bridge.proofs.Items.ComposedEdits.{freed-open, push-open, next-open, into-open}
 
 -- a choice that is known. (`rw e` with e : i .live ≡ b would take the record i apart.)
 pub chosen-yes : {X : Type 0} (P : X → Type 0) (b : Bool) (x y : X) → b ≡ true → P x → P (pick b x y)

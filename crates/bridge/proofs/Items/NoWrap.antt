@@ -1,13 +1,43 @@
--- An atlas in shape is narrow: no stored sum of it wraps, and what is occupied is no more than the atlas. Assumes nothing.
+-- No sum or product that is stored of an atlas in shape wraps: items end within 16 bits, shelves too, and areas within the largest atlas. Such a
+-- shelf or atlas is called narrow. What is occupied is no more than the atlas has. Assumes nothing.
 use Rattle.numbers.specs.Library.{ℕ, _+_, _*_, _≤_, _≡_, refl, ap, Bool, true, false, List, [], _∷_, add-mul, mul-le-mul, mul-le-mul-right, div-mul-le-self}
 use Rattle.numbers.specs.Library.{arith, eqb, eqb-true}
-use Rattle.numbers.specs.Prelude.{pick, columns, WithinLimits}
+use Rattle.numbers.specs.Prelude.{pick, columns, WithinLimits, mostArea}
 use Rattle.numbers.specs.declared.limits.Limits.{Limits}
-use Rattle.chains.specs.Prelude.{Each}
-use Rattle.rules.specs.Prelude.{Item, Shelf, Atlas, liveArea, occupied, Stacked, Filled}
-use Rattle.bridge.proofs.Items.Standing.{widths, NarrowShelf, Narrow}
+use Rattle.chains.specs.Prelude.{Each, backOnto}
+use Rattle.chains.proofs.Prelude.{each-split}
+use Rattle.rules.specs.Prelude.{Item, Shelf, Atlas, liveArea, occupied, Stacked, Filled, Shaped}
+use Rattle.laws.proofs.Shape.Columns.{stacked-placed}
 
--- ---- along a shelf
+-- ---- what keeps sums from wrapping
+
+unfoldable pub widths : List Item → ℕ
+widths [] = 0
+widths (i ∷ rest) = i .width + widths rest
+
+-- no sum that is stored of the shelf wraps: where its items end, how wide they are together, where it ends, and its area
+pub record NarrowShelf (s : Shelf) : Type 0 where
+  pub spans : Each (λ (i : Item). i .x + i .width ≤ 65535) (s .items)
+  pub width : widths (s .items) ≤ 65535
+  pub reach : s .y + s .depth ≤ 65535
+  pub area : widths (s .items) * s .depth ≤ mostArea
+
+-- nor one of any shelf, nor what is occupied
+pub record Narrow (a : Atlas) : Type 0 where
+  pub each : Each NarrowShelf (a .shelves)
+  pub total : occupied (a .shelves) ≤ mostArea
+
+pub widths-onto : (bs ys : List Item) → widths (backOnto bs ys) ≡ widths bs + widths ys
+unfolding widths
+widths-onto [] ys = omega arith
+widths-onto (b ∷ bs) ys = omega (arith, widths-onto bs (b ∷ ys))
+
+-- no item's area is more than its shelf's
+pub area-within : (d : ℕ) (bs : List Item) (i : Item) (ys : List Item) → i .width * d ≤ widths (backOnto bs (i ∷ ys)) * d
+unfolding widths
+area-within d bs i ys = rw (widths-onto bs (i ∷ ys)) (omega (arith, add-mul (widths bs) (i .width + widths ys) d, add-mul (i .width) (widths ys) d))
+
+-- ---- along a shelf that its items fill
 
 pub filled-widths : (l : Limits) (x end : ℕ) (is : List Item) → Filled l x end is → x + widths is ≡ end
 unfolding Filled widths
@@ -19,6 +49,7 @@ unfolding Filled
 filled-spans l x end [] f b = tt
 filled-spans l x end (i ∷ is) f b = (omega (arith, f .0, filled-widths l (x + i .width) end is (f .3)), filled-spans l (x + i .width) end is (f .3) b)
 
+-- the live items of a shelf have no more area than all its items
 pub live-within : (d : ℕ) (is : List Item) → liveArea d is ≤ widths is * d
 unfolding liveArea widths
 live-within d [] = omega arith
@@ -89,3 +120,17 @@ narrow a within q p f = record {
   each = narrow-each (a .limits) within (a .shelves) p f;
   total = omega (arith, occupied-within (a .limits) within (a .shelves) q f, within .sizes .area);
 }
+
+-- ---- an atlas in shape, a shelf of it, and an item of that
+
+module _ (a : Atlas) (shape : Shaped a) where
+  pub shaped-narrow : Narrow a
+  shaped-narrow = narrow a (shape .limits) (shape .stacked) (stacked-placed (a .limits) 0 0 (a .shelves) (shape .stacked)) (shape .filled)
+
+  -- a shelf where it stands
+  pub shelf-narrow : (bs : List Shelf) (s : Shelf) (ys : List Shelf) → a .shelves ≡ backOnto bs (s ∷ ys) → NarrowShelf s
+  shelf-narrow bs s ys stands = each-split NarrowShelf bs (s ∷ ys) (rw stands at (shaped-narrow .each)) .1 .0
+
+-- an item of it
+pub item-narrow : (s : Shelf) → NarrowShelf s → (ib : List Item) (i : Item) (ia : List Item) → s .items ≡ backOnto ib (i ∷ ia) → i .x + i .width ≤ 65535
+item-narrow s n ib i ia e = each-split (λ (j : Item). j .x + j .width ≤ 65535) ib (i ∷ ia) (rw e at (n .spans)) .1 .0

@@ -18,8 +18,8 @@ use Rattle.search.specs.declared.Held.the-variants.{Nothing, Good, Bad}
 use Rattle.bridge.proofs.Search.Walking.{held-rows}
 use Rattle.bridge.proofs.Search.Searching.{search-says}
 use Rattle.bridge.proofs.Search.RowsLeft.{rows-say}
-use Rattle.bridge.proofs.Search.Looking.{item-says, shelf-says}
-use Rattle.bridge.proofs.Items.Standing.{onRow}
+use Rattle.bridge.proofs.Search.LookUp.{item-says, shelf-says}
+use Rattle.bridge.proofs.Stands.{onRow}
 
 -- the rows of a shelf and an item, as the search holds them
 abbrev pub placeOf : Shelf → Item → Place

@@ -11,9 +11,9 @@ use Rattle.laws.proofs.Stored.Reading.{reads, formed}
 use Rattle.laws.proofs.Shape.Finding.{FoundAt}
 use Rattle.laws.proofs.Shape.Columns.{Placed, stacked-placed}
 use Rattle.live.specs.Live.{isLive, liveAt, isVacant, rowsListed}
-use Rattle.bridge.proofs.Search.Looking.{told, LiveSays, live-says}
+use Rattle.bridge.proofs.Search.LookUp.{told, LiveSays, live-says}
 use Rattle.bridge.proofs.Search.Listing.{list-says}
-use Rattle.bridge.proofs.Items.Bounds.{occupied-within}
+use Rattle.bridge.proofs.Items.NoWrap.{occupied-within}
 
 -- ---- an id that names a live item, and one that names none
 

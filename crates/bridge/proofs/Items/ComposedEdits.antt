@@ -11,11 +11,11 @@ use Rattle.live.specs.Live.{atRow}
 use Rattle.item_edits.specs.ItemEdits.{markLive, markFree, splitItem, joinNext, unlist, relist, enlist}
 use Rattle.grant.specs.Grant.{takePartItems, takeWholeItems}
 use Rattle.rules.proofs.LiveRows.{live-free}
-use Rattle.bridge.proofs.Items.Taking.{freedRow, item-new}
-use Rattle.bridge.proofs.Items.Open.{Open, once, listed, listed-row, unlist-open, relist-open, enlist-open}
-use Rattle.bridge.proofs.Items.Marks.{liveOf, freeOf, at-in, live-open, free-open}
+use Rattle.bridge.proofs.Items.PoolRows.{freedRow, item-new}
+use Rattle.bridge.proofs.Items.OpenShelf.{Open, once, listed, listed-row, unlist-open, relist-open, enlist-open}
+use Rattle.bridge.proofs.Items.MarkItem.{liveOf, freeOf, at-in, live-open, free-open}
 use Rattle.bridge.proofs.Items.Split.{split-open, new-out}
-use Rattle.bridge.proofs.Items.Join.{join-open}
+use Rattle.bridge.proofs.Items.JoinNext.{join-open}
 
 abbrev one : ℕ → List ℕ
 one r = r ∷ []

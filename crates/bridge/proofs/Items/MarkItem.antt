@@ -7,9 +7,9 @@ use Rattle.chains.proofs.Prelude.{not-out, in-onto, gather-onto, onto-map, chai
 use Rattle.rows.specs.Prelude.{get, change, rows-change, items, bodyOf, linksOf}
 use Rattle.rules.specs.Prelude.{Item, Freed, Pool, resized, item, free, noLinks, liveRows, itemRows}
 use Rattle.item_edits.specs.ItemEdits.{markLive, markFree}
-use Rattle.bridge.proofs.Items.Views.{sights, bodyMark}
+use Rattle.bridge.proofs.Items.RowViews.{sights, bodyMark}
 use Rattle.rules.proofs.LiveRows.{a-live, a-free}
-use Rattle.bridge.proofs.Items.Open.{Open, once, there, listed, others-stay}
+use Rattle.bridge.proofs.Items.OpenShelf.{Open, once, there, listed, others-stay}
 
 abbrev pub liveOf : Item → List ℕ
 liveOf j = pick (j .live) (j .row ∷ []) []

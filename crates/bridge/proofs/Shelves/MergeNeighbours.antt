@@ -12,11 +12,11 @@ use Rattle.shelf_edits.specs.State.{State}
 use Rattle.search.specs.Search.{shelfIsEmpty}
 use Rattle.shelf_edits.specs.ShelfEdits.{mergeShelves}
 use Rattle.merge.specs.Merge.{joins as joinsAt, mergeBelow as mergeBelowAt, mergeAbove as mergeAboveAt}
-use Rattle.bridge.proofs.Items.Standing.{Stands, onRow, shelf-says}
+use Rattle.bridge.proofs.Stands.{Stands, onRow, shelf-says}
 use Rattle.rules.proofs.Flags.{flag-one}
-use Rattle.bridge.proofs.Shelves.Empty.{lone-item}
-use Rattle.bridge.proofs.Shelves.Merge.{merge-leads}
-use Rattle.bridge.proofs.Shelves.Leads.{Leads, leads-same, leads-then}
+use Rattle.bridge.proofs.Shelves.EmptyShelf.{lone-item}
+use Rattle.bridge.proofs.Shelves.MergeShelves.{merge-leads}
+use Rattle.bridge.proofs.LeadsTo.{Leads, leads-same, leads-then}
 
 -- the atlas of a stack
 abbrev pub stacked : Limits → Stack → Atlas

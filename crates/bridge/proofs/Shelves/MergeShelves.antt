@@ -15,12 +15,11 @@ use Rattle.rules.proofs.Frames.{holds-frame, each-holds}
 use Rattle.wrap.specs.Wrap.{plus16-is}
 use Rattle.shelf_edits.specs.State.{State, state}
 use Rattle.shelf_edits.specs.ShelfEdits.{withReach, joinShelves, mergeShelves}
-use Rattle.bridge.proofs.Items.Views.{reads, seen-generation}
-use Rattle.bridge.proofs.Items.Standing.{Stands, onRow, used-shelves, used-items, shelf-says}
-use Rattle.bridge.proofs.Items.Frames.{occupied-onto}
-use Rattle.bridge.proofs.Items.Taking.{freed-shared}
-use Rattle.bridge.proofs.Shelves.Leads.{Leads}
-use Rattle.bridge.proofs.Shelves.Used.{shelf-some, shelf-there, item-there, first-used}
+use Rattle.bridge.proofs.Items.RowViews.{reads, seen-generation}
+use Rattle.bridge.proofs.Stands.{Stands, onRow, used-shelves, used-items, shelf-says, shelf-some, shelf-there, item-there, first-used}
+use Rattle.bridge.proofs.Items.SumsAndFreeLists.{occupied-onto}
+use Rattle.bridge.proofs.Items.PoolRows.{freed-shared}
+use Rattle.bridge.proofs.LeadsTo.{Leads}
 
 module _ (st : State) (a : Atlas) (bs : List Shelf) (p s : Shelf) (ys : List Shelf) (i j : Item)
     (are : a .shelves ≡ backOnto bs (p ∷ s ∷ ys))

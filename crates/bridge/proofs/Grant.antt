@@ -20,17 +20,17 @@ use Rattle.shelf_edits.specs.ShelfEdits.{splitShelf}
 use Rattle.spare.specs.Spare.{hasRows, splitsShelf as splitsRow}
 use Rattle.grant.specs.Grant.{fitShelf, takeItem, grantAt, grantedAt}
 use Rattle.search.specs.declared.Place.{Place}
-use Rattle.bridge.proofs.Search.Narrow.{shaped-narrow, shelf-narrow}
-use Rattle.bridge.proofs.Search.Looking.{told}
-use Rattle.bridge.proofs.Items.Standing.{Stands, widths, NarrowShelf, onRow}
-use Rattle.bridge.proofs.Items.Frames.{focus-of}
-use Rattle.bridge.proofs.Items.Granting.{occupy}
-use Rattle.bridge.proofs.Items.Placing.{place-stands}
-use Rattle.bridge.proofs.Shelves.Leads.{Leads, leads-same, leads-then}
-use Rattle.bridge.proofs.Shelves.Fitting.{fit-whole, fit-split}
+use Rattle.bridge.proofs.Items.NoWrap.{shaped-narrow, shelf-narrow, widths, NarrowShelf}
+use Rattle.bridge.proofs.Search.LookUp.{told}
+use Rattle.bridge.proofs.Stands.{Stands, onRow}
+use Rattle.bridge.proofs.Items.SumsAndFreeLists.{focus-of}
+use Rattle.bridge.proofs.Items.GrantItem.{occupy}
+use Rattle.bridge.proofs.Items.WholeOrPart.{place-stands}
+use Rattle.bridge.proofs.LeadsTo.{Leads, leads-same, leads-then}
+use Rattle.bridge.proofs.Shelves.FitShelf.{fit-whole, fit-split}
 use Rattle.bridge.proofs.Outcome.{becomes}
-use Rattle.bridge.proofs.Held.{PlaceHeld, rows-suffice}
-use Rattle.bridge.proofs.Placed.{before-grant, Placement, placement}
+use Rattle.bridge.proofs.PlaceOrRefusal.{PlaceHeld, rows-suffice}
+use Rattle.bridge.proofs.GrantAtPlace.{before-grant, Placement, placement}
 
 -- ---- the rows that the two splits need
 

@@ -4,7 +4,7 @@ use Rattle.numbers.specs.Library.{_≤_}
 use Rattle.rows.specs.Prelude.{Past, past-same, past-more, past-then, items, shelves}
 use Rattle.rules.specs.Prelude.{Atlas}
 use Rattle.shelf_edits.specs.State.{State}
-use Rattle.bridge.proofs.Items.Standing.{Stands}
+use Rattle.bridge.proofs.Stands.{Stands}
 
 pub record Leads (from to : State) (a : Atlas) : Type 0 where
   pub stands : Stands to a

@@ -10,8 +10,8 @@ use Rattle.rules.specs.Prelude.{Shelf, Freed, Atlas, item, free, freedItem, Hol
 use Rattle.rules.proofs.LiveRows.{free-row}
 use Rattle.laws.proofs.Stored.Determined.{live-or-free}
 use Rattle.shelf_edits.specs.State.{State}
-use Rattle.bridge.proofs.Items.Standing.{Stands, used-items}
-use Rattle.bridge.proofs.Inward.{Below, Linked, Inward}
+use Rattle.bridge.proofs.Stands.{Stands, used-items}
+use Rattle.bridge.proofs.LinksWithin.{Below, Linked, LinksWithin}
 
 -- ---- along a chain
 
@@ -90,8 +90,8 @@ module _ (st : State) (a : Atlas) (stands : Stands st a) (all : Each AllListed (
       freed-linked (st .items) used (omega arith) (a .rows .items .freed) (stands .stored .freed-items) (λ q d. stands .sound .item-rows .freed-exactly q .0 d .0) r
       (stands .sound .item-rows .freed-exactly r .1 (b, k))
 
-  pub inward : 0 < used → Inward used (st .items) (st .items)
-  inward some = record {
+  pub links-within : 0 < used → LinksWithin used (st .items) (st .items)
+  links-within some = record {
     past = past-same items used (st .items);
     some = some;
     room = used-items st a stands;

@@ -7,9 +7,9 @@ use Rattle.pool.specs.Pool.{newItem, addItem, newShelf, shelfTaken, itemTaken}
 use Rattle.rows.specs.declared.{header.Header.Header, item.ItemRow.ItemRow}
 use Rattle.rules.specs.Prelude.{Freed, Pool, Atlas, newRow, newGeneration, taken, rowsLeft, headerOf, shelfRows, allItemRows}
 use Rattle.shelf_edits.specs.State.{State}
-use Rattle.bridge.proofs.Items.Standing.{Stands, onRow, used-shelves, used-items}
-use Rattle.bridge.proofs.Items.Taking.{shelfRow, freedRow, withPool, Fresh, fresh, item-new, item-generation, item-header, shelf-fresh, shelf-new}
-use Rattle.bridge.proofs.Items.Taking.{shelf-header}
+use Rattle.bridge.proofs.Stands.{Stands, onRow, used-shelves, used-items}
+use Rattle.bridge.proofs.Items.PoolRows.{shelfRow, freedRow, withPool, Fresh, fresh, item-new, item-generation, item-header, shelf-fresh, shelf-new}
+use Rattle.bridge.proofs.Items.PoolRows.{shelf-header}
 
 -- the header with the used rows and the head of a pool of shelf rows
 abbrev pub withShelfPool : Pool ℕ → Header → Header

@@ -14,19 +14,19 @@ use Rattle.laws.proofs.Shape.ReleaseShaped.{release-shape}
 use Rattle.shelf_edits.specs.State.{State, state}
 use Rattle.live.specs.Live.{atRow}
 use Rattle.merge.specs.Merge.{mergeBelow as mergeBelowAt, mergeAbove as mergeAboveAt, releaseItem, releaseAt}
-use Rattle.bridge.proofs.Search.Looking.{found-used}
-use Rattle.bridge.proofs.Search.Narrow.{shaped-narrow, shelf-narrow}
-use Rattle.bridge.proofs.Items.Standing.{Stands, NarrowShelf, onRow, shelf-says}
-use Rattle.bridge.proofs.Items.Placing.{names-shelf}
-use Rattle.bridge.proofs.Items.Steady.{itemsOf}
-use Rattle.bridge.proofs.Items.Releasing.{release-stands}
-use Rattle.bridge.proofs.Shelves.Leads.{Leads, leads-then}
-use Rattle.bridge.proofs.Shelves.Merging.{merge-both}
+use Rattle.bridge.proofs.Search.LookUp.{found-used}
+use Rattle.bridge.proofs.Items.NoWrap.{shaped-narrow, shelf-narrow, NarrowShelf}
+use Rattle.bridge.proofs.Stands.{Stands, onRow, shelf-says}
+use Rattle.bridge.proofs.Items.WholeOrPart.{names-shelf}
+use Rattle.bridge.proofs.Items.MergesKeep.{itemsOf}
+use Rattle.bridge.proofs.Items.ReleaseItem.{release-stands}
+use Rattle.bridge.proofs.LeadsTo.{Leads, leads-then}
+use Rattle.bridge.proofs.Shelves.MergeNeighbours.{merge-both}
 use Rattle.bridge.proofs.Outcome.{becomes}
-use Rattle.bridge.proofs.Inward.{Below}
-use Rattle.bridge.proofs.Served.{first-below, inward, head-below}
-use Rattle.bridge.proofs.Loosed.{released-items, released-shelves}
-use Rattle.bridge.proofs.Depths.{SameUse, loose-use, stack-use, low-below, low-above}
+use Rattle.bridge.proofs.LinksWithin.{Below}
+use Rattle.bridge.proofs.UsedLinks.{first-below, links-within, head-below}
+use Rattle.bridge.proofs.ReleaseWrites.{released-items, released-shelves}
+use Rattle.bridge.proofs.MergeBounds.{SameUse, loose-use, stack-use, low-below, low-above}
 
 -- the step, by the row of the item's shelf
 release-step : (st : State) (on row : ℕ) → get items (st .items) row .shelf ≡ onRow on
@@ -100,7 +100,7 @@ module _ (h : Header) (S I : List ℕ) (a : Atlas) (stored : Stores h S I a) (fo
   loosened = record {
     stands = release-stands st a w (found .0) (found .1) was-live all stands narrow-here (shaped-narrow a (formed .shaped) .total);
     shelves-past = released-shelves st (onRow (s .row)) (atRow (i .row)) (m .rows .shelves .used) (omega (arith, as-used .shelves, shelf-used));
-    items-past = rw (as-used .items) (released-items st (onRow (s .row)) (atRow (i .row)) (a .rows .items .used) (inward st a stands (formed .shaped .all-listed) (omega (arith, item-used))) freed-head free-head (inl item-used));
+    items-past = rw (as-used .items) (released-items st (onRow (s .row)) (atRow (i .row)) (a .rows .items .used) (links-within st a stands (formed .shaped .all-listed) (omega (arith, item-used))) freed-head free-head (inl item-used));
   }
 
   -- ---- the shelves merged

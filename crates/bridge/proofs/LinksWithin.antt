@@ -23,21 +23,21 @@ pub record Linked (n : ℕ) (v : ItemRow) : Type 0 where
   pub next-free : Below n (v .«next_unallocated» .0)
 
 -- The table I, which was I₀: the first n rows link among themselves, and all later ones are as they were.
-pub record Inward (n : ℕ) (I₀ I : List ℕ) : Type 0 where
+pub record LinksWithin (n : ℕ) (I₀ I : List ℕ) : Type 0 where
   pub past : Past items n I₀ I
   pub some : 0 < n
   pub room : n ≤ rows items I
   pub linked : (r : ℕ) → r < n → Linked n (get items I r)
 
-module _ {n : ℕ} {I₀ I : List ℕ} (w : Inward n I₀ I) where
+module _ {n : ℕ} {I₀ I : List ℕ} (w : LinksWithin n I₀ I) where
   -- a row is linked wherever a link leads: no row holds zeros
   pub linked-at : (r : ℕ) → Below n r → Linked n (get items I r)
   unfolding items
   linked-at r = ⊎-elim (w .linked r) (λ e. rw (← get-none items I r e) (record { prev = inl (w .some); next = inl (w .some); prev-free = inl (w .some); next-free = inl (w .some) }))
 
-  pub inward-put : (i : ℕ) (v : ItemRow) → Below n i → Linked n v → Inward n I₀ (put items I i v)
-  inward-put i v b l = ⊎-elim there (λ e. rw (← put-none items I i v e) w) b where
-    there : i < n → Inward n I₀ (put items I i v)
+  pub within-put : (i : ℕ) (v : ItemRow) → Below n i → Linked n v → LinksWithin n I₀ (put items I i v)
+  within-put i v b l = ⊎-elim there (λ e. rw (← put-none items I i v e) w) b where
+    there : i < n → LinksWithin n I₀ (put items I i v)
     there c = record {
       past = past-put items n (w .past) i v c;
       some = w .some;
@@ -48,8 +48,8 @@ module _ {n : ℕ} {I₀ I : List ℕ} (w : Inward n I₀ I) where
       go r d (yes e) = rw (e, get-put-same items I i v (omega (arith, w .room))) l
       go r d (no k) = rw (get-put-other items I i r v k) (w .linked r d)
 
-  pub inward-change : (i : ℕ) (f : ItemRow → ItemRow) → Below n i → ((v : ItemRow) → Linked n v → Linked n (f v)) → Inward n I₀ (change items I i f)
-  inward-change i f b keep = rw change-is (inward-put i (f (get items I i)) b (keep (get items I i) (linked-at i b)))
+  pub within-change : (i : ℕ) (f : ItemRow → ItemRow) → Below n i → ((v : ItemRow) → Linked n v → Linked n (f v)) → LinksWithin n I₀ (change items I i f)
+  within-change i f b keep = rw change-is (within-put i (f (get items I i)) b (keep (get items I i) (linked-at i b)))
 
 -- ---- what the edits write into a row
 
@@ -94,33 +94,33 @@ module _ (n : ℕ) where
 
 -- ---- the edits
 
-module _ {n : ℕ} {I₀ I : List ℕ} (w : Inward n I₀ I) where
-  pub inward-unlist : (at : ItemIndex) → Below n (at .0) → Inward n I₀ (unlist I at)
+module _ {n : ℕ} {I₀ I : List ℕ} (w : LinksWithin n I₀ I) where
+  pub within-unlist : (at : ItemIndex) → Below n (at .0) → LinksWithin n I₀ (unlist I at)
   unfolding unlist
-  inward-unlist at b =
+  within-unlist at b =
       let l : Linked n (get items I (at .0)) = linked-at w (at .0) b in
-      inward-change (inward-change w _ _ (l .prev-free) (linked-nextFree n _ (l .next-free))) _ _ (l .next-free) (linked-prevFree n _ (l .prev-free))
+      within-change (within-change w _ _ (l .prev-free) (linked-nextFree n _ (l .next-free))) _ _ (l .next-free) (linked-prevFree n _ (l .prev-free))
 
-  pub inward-relist : (at new : ItemIndex) → Below n (at .0) → Below n (new .0) → Inward n I₀ (relist I at new)
+  pub within-relist : (at new : ItemIndex) → Below n (at .0) → Below n (new .0) → LinksWithin n I₀ (relist I at new)
   unfolding relist
-  inward-relist at new b c =
+  within-relist at new b c =
       let l : Linked n (get items I (at .0)) = linked-at w (at .0) b in
-      inward-change (inward-change (inward-change w _ _ c (linked-links n _ _ (l .prev-free) (l .next-free))) _ _ (l .prev-free) (linked-nextFree n new c)) _ _ (l .next-free) (linked-prevFree n new c)
+      within-change (within-change (within-change w _ _ c (linked-links n _ _ (l .prev-free) (l .next-free))) _ _ (l .prev-free) (linked-nextFree n new c)) _ _ (l .next-free) (linked-prevFree n new c)
 
-  pub inward-enlist : (first at : ItemIndex) → Below n (first .0) → Below n (at .0) → Inward n I₀ (enlist I first at)
+  pub within-enlist : (first at : ItemIndex) → Below n (first .0) → Below n (at .0) → LinksWithin n I₀ (enlist I first at)
   unfolding enlist
-  inward-enlist first at b c = inward-change (inward-change w _ _ b (linked-prevFree n at c)) _ _ c (linked-links n noItem first (inr refl) b)
+  within-enlist first at b c = within-change (within-change w _ _ b (linked-prevFree n at c)) _ _ c (linked-links n noItem first (inr refl) b)
 
-  pub inward-remove : (h : Header) (at : ItemIndex) → Below n (h .«free_items» .0) → Below n (at .0) → Inward n I₀ (removeItem I h at)
+  pub within-remove : (h : Header) (at : ItemIndex) → Below n (h .«free_items» .0) → Below n (at .0) → LinksWithin n I₀ (removeItem I h at)
   unfolding removeItem
-  inward-remove h at b c = inward-put w (at .0) _ c (linked-freed n (w .some) (h .«free_items») _ b)
+  within-remove h at b c = within-put w (at .0) _ c (linked-freed n (w .some) (h .«free_items») _ b)
 
-pub inward-join : {n : ℕ} {I₀ I : List ℕ} (w : Inward n I₀ I) (h : Header) (at : ItemIndex) → Below n (h .«free_items» .0) → Below n (at .0) → Inward n I₀ (joinNext h I at)
+pub within-join : {n : ℕ} {I₀ I : List ℕ} (w : LinksWithin n I₀ I) (h : Header) (at : ItemIndex) → Below n (h .«free_items» .0) → Below n (at .0) → LinksWithin n I₀ (joinNext h I at)
 unfolding joinNext
-inward-join {n} {I₀} {I} w h at b c =
+within-join {n} {I₀} {I} w h at b c =
     let i : Linked n (get items I (at .0)) = linked-at w (at .0) c in
     let k : Linked n (get items I (get items I (at .0) .next .0)) = linked-at w _ (i .next) in
-    inward-remove (inward-change (inward-change w _ _ c (linked-span n _ _ (k .next))) _ _ (k .next) (linked-prev n at c)) h _ b (i .next)
+    within-remove (within-change (within-change w _ _ c (linked-span n _ _ (k .next))) _ _ (k .next) (linked-prev n at c)) h _ b (i .next)
 
 -- ---- a row that is taken into use
 
@@ -133,9 +133,9 @@ linked-more m n v b l = record {
 }
 
 -- n rows are in use once row i is taken
-pub inward-new : {m : ℕ} {I₀ I : List ℕ} (w : Inward m I₀ I) (n i : ℕ) (v : ItemRow) → m ≤ n → n ≤ rows items I → i < n → ((r : ℕ) → r < n → (r ≡ i) ⊎ (r < m)) → Linked n v
-    → Inward n I₀ (put items I i v)
-inward-new {m} {I₀} {I} w n i v more room there cover l = record {
+pub within-new : {m : ℕ} {I₀ I : List ℕ} (w : LinksWithin m I₀ I) (n i : ℕ) (v : ItemRow) → m ≤ n → n ≤ rows items I → i < n → ((r : ℕ) → r < n → (r ≡ i) ⊎ (r < m)) → Linked n v
+    → LinksWithin n I₀ (put items I i v)
+within-new {m} {I₀} {I} w n i v more room there cover l = record {
   past = past-put items n (past-more items n more (w .past)) i v there;
   some = omega arith;
   room = rw rows-put room;

@@ -8,11 +8,11 @@ use Rattle.shelf_edits.specs.State.{State}
 use Rattle.item_edits.specs.ItemEdits.{markFree, firstAfter}
 use Rattle.merge_items.specs.MergeItems.{Loose, isFreeItem, absorbNext, mergeNext, mergeInto, loosen}
 use Rattle.merge.specs.Merge.{withAreaRemoved, loosened, releaseItem}
-use Rattle.bridge.proofs.Inward.{Below, Linked, Inward, linked-at, inward-change, linked-mark, inward-unlist, inward-enlist, inward-join}
+use Rattle.bridge.proofs.LinksWithin.{Below, Linked, LinksWithin, linked-at, within-change, linked-mark, within-unlist, within-enlist, within-join}
 
 -- on the way through a release: the item table, the head of the freed rows and the first free row
 record LooseIn (n : ℕ) (I₀ : List ℕ) (m : Loose) : Type 0 where
-  pub table : Inward n I₀ (m .items)
+  pub table : LinksWithin n I₀ (m .items)
   pub head : Below n (m .header .«free_items» .0)
   pub first : Below n (m .first .0)
 
@@ -27,7 +27,7 @@ module _ (n : ℕ) (I₀ : List ℕ) (m : Loose) (w : LooseIn n I₀ m) (at : It
   absorbed : LooseIn n I₀ (absorbNext m at)
   unfolding absorbNext itemFreed withFreeItems
   absorbed = record {
-    table = inward-join (inward-unlist (w .table) _ (here .next)) (m .header) at (w .head) b;
+    table = within-join (within-unlist (w .table) _ (here .next)) (m .header) at (w .head) b;
     head = here .next;
     first = first-after n (m .first) _ _ (w .first) (linked-at (w .table) _ (here .next) .next-free);
   }
@@ -40,15 +40,15 @@ module _ (n : ℕ) (I₀ : List ℕ) (m : Loose) (w : LooseIn n I₀ m) (at : It
   unfolding mergeInto itemFreed withFreeItems
   into-in =
       pick-cases (LooseIn n I₀) (isFreeItem (m .items) (get items (m .items) (at .0) .prev)) _ _
-      (λ e. record { table = inward-join (w .table) (m .header) _ (w .head) (here .prev); head = linked-at (w .table) _ (here .prev) .next; first = w .first })
-      (λ e. record { table = inward-enlist (w .table) (m .first) at (w .first) b; head = w .head; first = b })
+      (λ e. record { table = within-join (w .table) (m .header) _ (w .head) (here .prev); head = linked-at (w .table) _ (here .prev) .next; first = w .first })
+      (λ e. record { table = within-enlist (w .table) (m .first) at (w .first) b; head = w .head; first = b })
 
 module _ (st : State) (on : ShelfIndex) (at : ItemIndex) where
-  pub released-items : (n : ℕ) → Inward n (st .items) (st .items) → Below n (st .header .«free_items» .0) → Below n (shelfAt (st .shelves) on .«first_unallocated» .0) → Below n (at .0)
+  pub released-items : (n : ℕ) → LinksWithin n (st .items) (st .items) → Below n (st .header .«free_items» .0) → Below n (shelfAt (st .shelves) on .«first_unallocated» .0) → Below n (at .0)
       → Past items n (st .items) (releaseItem st on at .items)
   unfolding releaseItem loosened loosen withAreaRemoved withOccupied
   released-items n w head first b =
-      let m : LooseIn n (st .items) _ = record { table = inward-change w (at .0) markFree b (linked-mark n); head = head; first = first } in
+      let m : LooseIn n (st .items) _ = record { table = within-change w (at .0) markFree b (linked-mark n); head = head; first = first } in
       into-in n (st .items) _ (next-in n (st .items) _ m at b) at b .table .past
 
   pub released-shelves : (n : ℕ) → on .0 < n → Past shelves n (st .shelves) (releaseItem st on at .shelves)

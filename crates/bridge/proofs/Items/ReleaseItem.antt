@@ -17,17 +17,18 @@ use Rattle.item_edits.specs.ItemEdits.{markFree, unlist, enlist, joinNext, firs
 use Rattle.shelf_edits.specs.ShelfEdits.{withFree}
 use Rattle.merge_items.specs.MergeItems.{Loose as Loosened, isFreeItem, absorbNext, mergeNext as nextMerged, mergeInto as intoMerged, loosen, oneFree}
 use Rattle.merge.specs.Merge.{withAreaRemoved as vacate, loosened, releaseItem}
-use Rattle.bridge.proofs.Items.Views.{seen-next, seen-allocated}
+use Rattle.bridge.proofs.Items.RowViews.{seen-next, seen-allocated}
 use Rattle.rules.proofs.LiveRows.{live-free}
-use Rattle.bridge.proofs.Items.Frames.{area-onto, occupied-onto}
-use Rattle.bridge.proofs.Items.Standing.{Stands, onRow, shelf-says, widths, NarrowShelf}
-use Rattle.bridge.proofs.Items.Taking.{withPool}
-use Rattle.bridge.proofs.Items.Open.{Open, once, some}
-use Rattle.bridge.proofs.Items.Marks.{liveOf, at-in, body-is}
-use Rattle.bridge.proofs.Items.Close.{reshelved, open-shelf, close-stands, close-header}
-use Rattle.bridge.proofs.Items.Granting.{area-is}
-use Rattle.bridge.proofs.Items.Loosening.{Loosely, marked, next-merged, into-merged}
-use Rattle.bridge.proofs.Items.Steady.{itemsOf, Steady, Between, next-between, next-steady, into-steady}
+use Rattle.bridge.proofs.Items.SumsAndFreeLists.{area-onto, occupied-onto}
+use Rattle.bridge.proofs.Stands.{Stands, onRow, shelf-says}
+use Rattle.bridge.proofs.Items.NoWrap.{widths, NarrowShelf}
+use Rattle.bridge.proofs.Items.PoolRows.{withPool}
+use Rattle.bridge.proofs.Items.OpenShelf.{Open, once, some}
+use Rattle.bridge.proofs.Items.MarkItem.{liveOf, at-in, body-is}
+use Rattle.bridge.proofs.Items.CloseShelf.{reshelved, open-shelf, close-stands, close-header}
+use Rattle.bridge.proofs.Items.GrantItem.{area-is}
+use Rattle.bridge.proofs.Items.MergeItems.{Loosely, marked, next-merged, into-merged}
+use Rattle.bridge.proofs.Items.MergesKeep.{itemsOf, Steady, Between, next-between, next-steady, into-steady}
 
 -- what the code's flag is read from: one item is left, and it is free
 one-free : {I₀ I : List ℕ} {on : ℕ} {fl : List ℕ} {p : Pool Freed} {others : List ℕ} (is : List Item) → Open I₀ I on is fl p others

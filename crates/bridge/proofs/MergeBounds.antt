@@ -3,7 +3,7 @@ use Rattle.numbers.specs.Library.{ℕ, _+_, _≤_, _≡_, refl, sym, ap, _∙_,
 use Rattle.rules.specs.Prelude.{Item, Shelf, Rows, Loose, Stack, freeing, freeItemRow, freeShelfRow, freeShelf, deeper, joins, mergeNext, mergeInto, mergeBelow}
 use Rattle.rules.specs.Prelude.{mergeAbove}
 use Rattle.laws.proofs.Shape.Merging.{next-cases, into-cases, below-cases, above-cases}
-use Rattle.bridge.proofs.Shelves.Merging.{LowBelow, LowAbove}
+use Rattle.bridge.proofs.Shelves.MergeNeighbours.{LowBelow, LowAbove}
 
 -- ---- no merge changes how many rows are in use
 

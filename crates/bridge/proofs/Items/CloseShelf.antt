@@ -14,10 +14,10 @@ use Rattle.rules.specs.Prelude.{shelfRows, itemRows, allItemRows, Sound, FreeLi
 use Rattle.rules.proofs.Frames.{each-holds}
 use Rattle.shelf_edits.specs.State.{State, state}
 use Rattle.shelf_edits.specs.ShelfEdits.{withFree}
-use Rattle.bridge.proofs.Items.Views.{reads}
-use Rattle.bridge.proofs.Items.Taking.{withPool}
-use Rattle.bridge.proofs.Items.Standing.{Stands, used-items, used-shelves}
-use Rattle.bridge.proofs.Items.Open.{Open}
+use Rattle.bridge.proofs.Items.RowViews.{reads}
+use Rattle.bridge.proofs.Items.PoolRows.{withPool}
+use Rattle.bridge.proofs.Stands.{Stands, used-items, used-shelves}
+use Rattle.bridge.proofs.Items.OpenShelf.{Open}
 
 -- ---- the rows that serve, in two orders
 

@@ -17,16 +17,17 @@ use Rattle.live.specs.Live.{atRow, areaAt}
 use Rattle.item_edits.specs.ItemEdits.{firstAfter}
 use Rattle.shelf_edits.specs.ShelfEdits.{withFree}
 use Rattle.grant.specs.Grant.{useShelf, takePartItems, takePart, takeWholeItems, takeWhole, withAreaAdded as occupiedAfter}
-use Rattle.bridge.proofs.Items.Views.{reads, seen-nextFree, seen-width, seen-shelf}
+use Rattle.bridge.proofs.Items.RowViews.{reads, seen-nextFree, seen-width, seen-shelf}
 use Rattle.rules.proofs.LiveRows.{live-free}
 use Rattle.laws.proofs.Shape.GrantShaped.{in-use as not-empty}
-use Rattle.bridge.proofs.Items.Frames.{area-onto, occupied-onto, replace-at, first-listed}
-use Rattle.bridge.proofs.Items.Standing.{Stands, onRow, used-items, shelf-says, widths, NarrowShelf, area-within}
-use Rattle.bridge.proofs.Items.Taking.{freedRow, withPool, item-new, item-header}
-use Rattle.bridge.proofs.Items.Open.{Open, once, links-are}
-use Rattle.bridge.proofs.Items.Marks.{liveOf, body-is}
-use Rattle.bridge.proofs.Items.Moves.{whole-open, part-open}
-use Rattle.bridge.proofs.Items.Close.{reshelved, open-shelf, shelf-there, close-stands, close-header}
+use Rattle.bridge.proofs.Items.SumsAndFreeLists.{area-onto, occupied-onto, replace-at, first-listed}
+use Rattle.bridge.proofs.Stands.{Stands, onRow, used-items, shelf-says}
+use Rattle.bridge.proofs.Items.NoWrap.{widths, NarrowShelf, area-within}
+use Rattle.bridge.proofs.Items.PoolRows.{freedRow, withPool, item-new, item-header}
+use Rattle.bridge.proofs.Items.OpenShelf.{Open, once, links-are}
+use Rattle.bridge.proofs.Items.MarkItem.{liveOf, body-is}
+use Rattle.bridge.proofs.Items.ComposedEdits.{whole-open, part-open}
+use Rattle.bridge.proofs.Items.CloseShelf.{reshelved, open-shelf, shelf-there, close-stands, close-header}
 
 -- the state in which the item's area is occupied
 abbrev pub occupy : State → ItemIndex → State

@@ -10,10 +10,10 @@ use Rattle.search.specs.Search.{shelfIsEmpty}
 use Rattle.spare.specs.Spare.{splitsShelf as splitsRow}
 use Rattle.grant.specs.Grant.{fitShelf}
 use Rattle.shelf_edits.specs.ShelfEdits.{splitShelf}
-use Rattle.bridge.proofs.Items.Standing.{Stands, onRow, shelf-says}
-use Rattle.bridge.proofs.Shelves.Leads.{Leads}
+use Rattle.bridge.proofs.Stands.{Stands, onRow, shelf-says}
+use Rattle.bridge.proofs.LeadsTo.{Leads}
 use Rattle.rules.proofs.Flags.{flag-one}
-use Rattle.bridge.proofs.Shelves.Empty.{lone-item}
+use Rattle.bridge.proofs.Shelves.EmptyShelf.{lone-item}
 use Rattle.bridge.proofs.Shelves.Split.{split-leads}
 
 -- the step as a choice

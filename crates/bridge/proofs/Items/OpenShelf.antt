@@ -10,7 +10,7 @@ use Rattle.rows.specs.Prelude.{rows, get, rows-few, change, rows-change, items,
 use Rattle.rules.specs.Prelude.{Item, Freed, Pool, item, free, noLinks, liveRows, freeRows, freedItem, itemRows, freedRows, Shared}
 use Rattle.live.specs.Live.{atRow}
 use Rattle.item_edits.specs.ItemEdits.{withLinks, unlist, relist, enlist}
-use Rattle.bridge.proofs.Items.Views.{sights, linksPrev, linksNext, links, seen-prevFree, seen-nextFree}
+use Rattle.bridge.proofs.Items.RowViews.{sights, linksPrev, linksNext, links, seen-prevFree, seen-nextFree}
 use Rattle.rules.proofs.LiveRows.{live-row, free-row, live-free}
 
 -- a list of rows, as the chain of a free list has them

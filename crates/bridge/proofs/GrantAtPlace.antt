@@ -13,12 +13,12 @@ use Rattle.shelf_edits.specs.State.{State}
 use Rattle.live.specs.Live.{atRow}
 use Rattle.spare.specs.Spare.{splitsItem as splitsRow}
 use Rattle.grant.specs.Grant.{takePart, takeWhole, takeItem}
-use Rattle.bridge.proofs.Items.Standing.{Stands, onRow, used-items}
-use Rattle.bridge.proofs.Items.Taking.{freedRow, Fresh, fresh, item-new}
-use Rattle.bridge.proofs.Items.Placing.{splits-same}
-use Rattle.bridge.proofs.Inward.{Inward}
-use Rattle.bridge.proofs.Served.{inward}
-use Rattle.bridge.proofs.Taken.{TakenRow, taken-row, whole-past, part-past, use-past}
+use Rattle.bridge.proofs.Stands.{Stands, onRow, used-items}
+use Rattle.bridge.proofs.Items.PoolRows.{freedRow, Fresh, fresh, item-new}
+use Rattle.bridge.proofs.Items.WholeOrPart.{splits-same}
+use Rattle.bridge.proofs.LinksWithin.{LinksWithin}
+use Rattle.bridge.proofs.UsedLinks.{links-within}
+use Rattle.bridge.proofs.GrantWrites.{TakenRow, taken-row, whole-past, part-past, use-past}
 
 -- the atlas in which the shelf of the place stands before `below`
 abbrev pub before-grant : Atlas → Focus Shelf → List Shelf → Rows → Atlas
@@ -58,8 +58,8 @@ module _ (st : State) (a : Atlas) (f : Focus Shelf) (w : Focus Item) (below : Li
       let mine : i .row ∈ itemRows (s .items) = rw items-are (in-onto (λ (q : Item). q .row ∷ []) (i .row) (w .before) (i ∷ w .after) (inr (List·Memᴰ·head refl))) in
       stands .sound .item-rows .serving-used (i .row) (in-onto (λ (q : Shelf). itemRows (q .items)) (i .row) (f .before) (s ∷ below) (inr (Memᴰ·append-left (allItemRows below) mine)))
 
-  links : Inward (r .items .used) (st .items) (st .items)
-  links = inward st a₀ stands all (omega (arith, item-used))
+  links : LinksWithin (r .items .used) (st .items) (st .items)
+  links = links-within st a₀ stands all (omega (arith, item-used))
 
   chooses : (b : Bool) → splitsItem asked i ≡ b → splitsRow asked (get items (st .items) (i .row)) ≡ b
   chooses b e = splits-same st a₀ (record { before = f .before; this = s; after = below }) w refl items-are stands asked ∙ e

@@ -8,9 +8,9 @@ use Rattle.chains.specs.Prelude.{_∈_}
 use Rattle.rules.specs.Prelude.{Pool, newRow, taken, Shared}
 use Rattle.item_edits.specs.ItemEdits.{markLive, splitItem}
 use Rattle.grant.specs.Grant.{useShelf, takePartItems, takeWholeItems}
-use Rattle.bridge.proofs.Items.Taking.{rowsIn}
-use Rattle.bridge.proofs.Inward.{Below, Inward, inward-change, inward-new, linked-live, linked-span, linked-prev, linked-rest, below-more, inward-unlist}
-use Rattle.bridge.proofs.Inward.{inward-relist}
+use Rattle.bridge.proofs.Items.PoolRows.{rowsIn}
+use Rattle.bridge.proofs.LinksWithin.{Below, LinksWithin, within-change, within-new, linked-live, linked-span, linked-prev, linked-rest, below-more, within-unlist}
+use Rattle.bridge.proofs.LinksWithin.{within-relist}
 
 -- ---- the rows in use once one is taken
 
@@ -33,23 +33,23 @@ module _ {E : Type 0} (row : E → ℕ) where
 
 -- ---- the item table
 
-pub whole-past : (n : ℕ) (I : List ℕ) (at : ItemIndex) → Inward n I I → Below n (at .0) → Past items n I (takeWholeItems I at)
+pub whole-past : (n : ℕ) (I : List ℕ) (at : ItemIndex) → LinksWithin n I I → Below n (at .0) → Past items n I (takeWholeItems I at)
 unfolding takeWholeItems
-whole-past n I at w b = inward-change (inward-unlist w at b) (at .0) markLive b (linked-live n) .past
+whole-past n I at w b = within-change (within-unlist w at b) (at .0) markLive b (linked-live n) .past
 
-module _ (m n : ℕ) (I : List ℕ) (h : Header) (at : ItemIndex) (width : ℕ) (w : Inward m I I) (b : at .0 < m)
+module _ (m n : ℕ) (I : List ℕ) (h : Header) (at : ItemIndex) (width : ℕ) (w : LinksWithin m I I) (b : at .0 < m)
     (more : m ≤ n) (room : n ≤ rows items I) (there : newItem h .0 < n) (cover : (r : ℕ) → r < n → (r ≡ newItem h .0) ⊎ (r < m)) where
-  inward-split : Inward n I (splitItem h I at width)
+  within-split : LinksWithin n I (splitItem h I at width)
   unfolding splitItem addItem
-  inward-split =
+  within-split =
       let next : Below n (get items I (at .0) .next .0) = below-more m n _ more (w .linked (at .0) b .next) in
       let here : Below n (at .0) = inl (omega arith) in
-      let new : Inward n I _ = inward-new w n (newItem h .0) _ more room there cover (linked-rest n (get items I (at .0)) at width (newGeneration I h) here next) in
-      inward-change (inward-change new (at .0) _ here (linked-span n width (newItem h) (inl there))) _ _ next (linked-prev n (newItem h) (inl there))
+      let new : LinksWithin n I _ = within-new w n (newItem h .0) _ more room there cover (linked-rest n (get items I (at .0)) at width (newGeneration I h) here next) in
+      within-change (within-change new (at .0) _ here (linked-span n width (newItem h) (inl there))) _ _ next (linked-prev n (newItem h) (inl there))
 
   pub part-past : Past items n I (takePartItems h I at width)
   unfolding takePartItems
-  part-past = let here : Below n (at .0) = inl (omega arith) in inward-change (inward-relist inward-split at (newItem h) here (inl there)) (at .0) markLive here (linked-live n) .past
+  part-past = let here : Below n (at .0) = inl (omega arith) in within-change (within-relist within-split at (newItem h) here (inl there)) (at .0) markLive here (linked-live n) .past
 
 -- ---- the shelf table
 
