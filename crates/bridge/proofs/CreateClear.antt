@@ -1,4 +1,5 @@
--- Create and clear: a fresh atlas stands in what they leave. Assumes nothing.
+-- Create and clear: what they leave is a fresh atlas, whatever stood in the tables before. A clear is a create with the limits of the header.
+-- Assumes nothing.
 use Rattle.numbers.specs.Library.{ℕ, _≤_, List}
 use Rattle.numbers.specs.declared.limits.Limits.{Limits}
 use Rattle.numbers.specs.Prelude.{columns, WithinLimits}

@@ -1,4 +1,5 @@
--- A grant, whole: what it leaves in header and tables is the atlas that the rules make, and its answer is the rules' answer. Assumes nothing.
+-- A grant as a whole. From the place that the search holds, with rows enough left for it, the step leads to the atlas that the rules make, and its
+-- answer, which is read from the tables, is the rules' answer. Assumes nothing.
 use Rattle.numbers.specs.Library.{ℕ, _+_, _-_, _≤_, _<_, _≡_, refl, ap, _∙_, subst, Bool, true, false, _||_, List, [], _∷_, arith, ltb, length, ltb-false}
 use native.Mathlib.Nat.{mul-le-mul-left}
 use Rattle.numbers.specs.declared.request.Asked.{Asked}
@@ -63,26 +64,26 @@ unfolding fitShelf splitShelf itemTakenAt shelfTakenAt withUsedItems withUsedShe
 fit-occupied st on q =
     pick-cases (λ (t : State). t .header .occupied ≡ st .header .occupied) (splitsRow q (get shelves (st .shelves) on)) (splitShelf st (onRow on) (q .depth)) st (λ e. refl) (λ e. refl)
 
--- ---- the item granted in a state that the shelf's split, or nothing, led to
+-- ---- the item granted in a state that the shelf's split, or nothing, led to: `mid`, where rows r are used and `below` follows the shelf
 
-module _ (st mid : State) (a : Atlas) (f : Focus Shelf) (w : Focus Item) (below : List Shelf) (r : Rows) (q : Asked)
-    (led : Leads st mid (before-grant a f below r)) (items-are : f .this .items ≡ backOnto (w .before) (w .this ∷ w .after)) (listed : w .this .row ∈ f .this .free)
-    (all : Each AllListed (backOnto (f .before) (f .this ∷ below))) (narrow : NarrowShelf (f .this)) (total : occupied (backOnto (f .before) (f .this ∷ below)) ≤ mostArea)
-    (wide : q .width ≤ w .this .width) (left : splitsItem q (w .this) ≡ true → 0 < rowsLeft (rows items (mid .items)) (r .items)) where
-  pub pl : Placement a q f w below r mid
-  pl = placement mid a f w below r q items-are (led .stands) all left
+module _ (st mid : State) (a : Atlas) (shelf-at : Focus Shelf) (item-at : Focus Item) (below : List Shelf) (r : Rows) (q : Asked)
+    (led : Leads st mid (before-grant a shelf-at below r)) (items-are : shelf-at .this .items ≡ backOnto (item-at .before) (item-at .this ∷ item-at .after)) (listed : item-at .this .row ∈ shelf-at .this .free)
+    (all : Each AllListed (backOnto (shelf-at .before) (shelf-at .this ∷ below))) (narrow : NarrowShelf (shelf-at .this)) (total : occupied (backOnto (shelf-at .before) (shelf-at .this ∷ below)) ≤ mostArea)
+    (wide : q .width ≤ item-at .this .width) (left : splitsItem q (item-at .this) ≡ true → 0 < rowsLeft (rows items (mid .items)) (r .items)) where
+  pub placed : Placement a q shelf-at item-at below r mid
+  placed = placement mid a shelf-at item-at below r q items-are (led .stands) all left
 
   abbrev done : State
-  done = occupy (takeItem mid (onRow (f .this .row)) (atRow (w .this .row)) q) (atRow (w .this .row))
+  done = occupy (takeItem mid (onRow (shelf-at .this .row)) (atRow (item-at .this .row)) q) (atRow (item-at .this .row))
 
-  pub grant-leads : Leads st done (pl .after)
+  pub grant-leads : Leads st done (placed .after)
   unfolding roomIn
   grant-leads =
-      let (fb, fa, free-are) = focus-of [] (f .this .free) (w .this .row) listed in
-      leads-then (pl .more-shelves) (pl .more-items) led (record {
-        stands = place-stands mid a f w below r q items-are fb fa free-are (led .stands) narrow total wide left _ (pl .after) (pl .is);
-        shelves-past = pl .shelves-past;
-        items-past = pl .items-past;
+      let (fb, fa, free-are) = focus-of [] (shelf-at .this .free) (item-at .this .row) listed in
+      leads-then (placed .more-shelves) (placed .more-items) led (record {
+        stands = place-stands mid a shelf-at item-at below r q items-are fb fa free-are (led .stands) narrow total wide left _ (placed .after) (placed .is);
+        shelves-past = placed .shelves-past;
+        items-past = placed .items-past;
       })
 
 -- ---- the two ways of a grant
@@ -93,21 +94,21 @@ unfolding grantAt
 step-at st on row height q mid e = ap (λ (t : State). occupy (takeItem t (onRow on) (atRow row) q) (atRow row)) e
 
 module _ (h : Header) (S I : List ℕ) (a : Atlas) (stored : Stores h S I a) (formed : WellFormed (roomIn S I) a) (q : Asked) (within : Placeable (a .limits) q)
-    (at : Place) (k : PlaceHeld h S I a stored formed q at) (rows-there : hasRows h S I at q ≡ true) where
+    (at : Place) (place : PlaceHeld h S I a stored formed q at) (rows-there : hasRows h S I at q ≡ true) where
   abbrev st : State
   st = state h S I
 
-  abbrev f : Focus Shelf
-  f = k .shelf
+  abbrev shelf-at : Focus Shelf
+  shelf-at = place .shelf
 
-  abbrev w : Focus Item
-  w = k .item
+  abbrev item-at : Focus Item
+  item-at = place .item
 
   abbrev s : Shelf
-  s = f .this
+  s = shelf-at .this
 
   abbrev i : Item
-  i = w .this
+  i = item-at .this
 
   -- what is to be shown
   abbrev Grants : Type 0
@@ -119,72 +120,74 @@ module _ (h : Header) (S I : List ℕ) (a : Atlas) (stored : Stores h S I a) (fo
   stands = record { stored = stored; sound = formed .sound }
 
   suffice : tooFewRows (roomIn S I) (a .rows) (splitsShelf q s) (splitsItem q i) ≡ false
-  suffice = rows-suffice h S I a stored formed q at k rows-there
+  suffice = rows-suffice h S I a stored formed q at place rows-there
 
   -- the step, once its shelf fits
-  grant-step : (mid : State) → fitShelf st (onRow (s .row)) q ≡ mid → grantAt st at q ≡ occupy (takeItem mid (onRow (s .row)) (atRow (i .row)) q) (atRow (i .row))
-  grant-step mid e = ap (λ (x : Place). grantAt st x q) (k .is) ∙ step-at st (s .row) (i .row) (s .depth) q mid e
+  grant-step : (fitted : State) → fitShelf st (onRow (s .row)) q ≡ fitted → grantAt st at q ≡ occupy (takeItem fitted (onRow (s .row)) (atRow (i .row)) q) (atRow (i .row))
+  grant-step fitted e = ap (λ (x : Place). grantAt st x q) (place .is) ∙ step-at st (s .row) (i .row) (s .depth) q fitted e
 
-  -- what is left in the end: the answer is read where the item stands
-  closed : (done : State) (g : Focus Shelf) (below : List Shelf) (r : Rows) (mid : State) (pl : Placement a q g w below r mid)
-      → grantAt st at q ≡ done → grant (roomIn S I) a q ≡ grantItem a q g w below r → Leads st done (pl .after) → Grants
+  -- Both ways end alike: the atlas that is led to is in shape, so the audit meets it, and the answer is read where the item then stands.
+  closed : (done : State) (on-shelf : Focus Shelf) (below : List Shelf) (rows-then : Rows) (fitted : State) (placed : Placement a q on-shelf item-at below rows-then fitted)
+      → grantAt st at q ≡ done → grant (roomIn S I) a q ≡ grantItem a q on-shelf item-at below rows-then → Leads st done (placed .after) → Grants
   unfolding grantedAt
-  closed done g below r mid pl step e led =
-      let shaped : Shaped (pl .after) = grant-shaped (roomIn S I) a q _ (pl .after) formed within (e ∙ pl .is) in
-      let b : Becomes S I (done .header) (done .shelves) (done .items) (pl .after) = becomes h S I done (pl .after) led shaped in
-      let tells : liveAt (done .header) (done .shelves) (done .items) (at .item .0) ≡ liveOf (a .limits) (g .this) (pl .found .item .this) =
-      ap (λ (x : Place). liveAt (done .header) (done .shelves) (done .items) (x .item .0)) (k .is)
-      ∙ told (done .header) (done .shelves) (done .items) (pl .after) (led .stands .stored) (record { sound = led .stands .sound; shaped = shaped }) (pl .found) (i .row) (pl .found-at)
-      ∙ pl .same-live in
-      (pl .after, rw (step, tells) (e ∙ pl .is), rw step b)
+  closed done on-shelf below rows-then fitted placed step e led =
+      let shaped : Shaped (placed .after) = grant-shaped (roomIn S I) a q _ (placed .after) formed within (e ∙ placed .is) in
+      let b : Becomes S I (done .header) (done .shelves) (done .items) (placed .after) = becomes h S I done (placed .after) led shaped in
+      let tells : liveAt (done .header) (done .shelves) (done .items) (at .item .0) ≡ liveOf (a .limits) (on-shelf .this) (placed .found .item .this) =
+      ap (λ (x : Place). liveAt (done .header) (done .shelves) (done .items) (x .item .0)) (place .is)
+      ∙ told (done .header) (done .shelves) (done .items) (placed .after) (led .stands .stored) (record { sound = led .stands .sound; shaped = shaped }) (placed .found) (i .row) (placed .found-at)
+      ∙ placed .same-live in
+      (placed .after, rw (step, tells) (e ∙ placed .is), rw step b)
 
   -- ---- the shelf as it is
 
   narrow-here : NarrowShelf s
-  narrow-here = shelf-narrow a (formed .shaped) (f .before) s (f .after) (k .chosen .stands)
+  narrow-here = shelf-narrow a (formed .shaped) (shelf-at .before) s (shelf-at .after) (place .chosen .stands)
 
-  all-here : Each AllListed (backOnto (f .before) (s ∷ f .after))
-  all-here = rw (k .chosen .stands) at (formed .shaped .all-listed)
+  all-here : Each AllListed (backOnto (shelf-at .before) (s ∷ shelf-at .after))
+  all-here = rw (place .chosen .stands) at (formed .shaped .all-listed)
 
-  same-atlas : a ≡ before-grant a f (f .after) (a .rows)
-  same-atlas = ap (λ (ss : List Shelf). record { limits = a .limits; shelves = ss; rows = a .rows }) (k .chosen .stands)
+  same-atlas : a ≡ before-grant a shelf-at (shelf-at .after) (a .rows)
+  same-atlas = ap (λ (ss : List Shelf). record { limits = a .limits; shelves = ss; rows = a .rows }) (place .chosen .stands)
 
-  place-unsplit : splitsShelf q s ≡ false → grantInShelf (roomIn S I) a q f w ≡ grantItem a q f w (f .after) (a .rows)
+  place-unsplit : splitsShelf q s ≡ false → grantInShelf (roomIn S I) a q shelf-at item-at ≡ grantItem a q shelf-at item-at (shelf-at .after) (a .rows)
   unfolding grantInShelf
   place-unsplit e = rw (suffice, e)
 
   left-unsplit : splitsShelf q s ≡ false → splitsItem q i ≡ true → 0 < rowsLeft (rows items I) (a .rows .items)
   unfolding roomIn count
-  left-unsplit e g = omega (arith, enough (roomIn S I) (a .rows) false true (rw (e, g) at suffice) .1)
+  left-unsplit e wider = omega (arith, enough (roomIn S I) (a .rows) false true (rw (e, wider) at suffice) .1)
 
+  -- the shelf is kept as it is, and the item granted in the state that the step began with
   unsplit : splitsShelf q s ≡ false → Grants
   unsplit e =
-      let led : Leads st st (before-grant a f (f .after) (a .rows)) = leads-same st _ (subst (Stands st) same-atlas stands) in
-      let total : occupied (backOnto (f .before) (s ∷ f .after)) ≤ mostArea = rw (k .chosen .stands) at (shaped-narrow a (formed .shaped) .total) in
-      closed _ f (f .after) (a .rows) st
-      (pl st st a f w (f .after) (a .rows) q led (k .chosen .spot .stands) (k .chosen .spot .listed) all-here narrow-here total (k .chosen .wide) (left-unsplit e))
-      (grant-step st (fit-whole st a (f .before) s (f .after) q (k .chosen .stands) stands e))
-      (k .grant-is ∙ place-unsplit e)
-      (grant-leads st st a f w (f .after) (a .rows) q led (k .chosen .spot .stands) (k .chosen .spot .listed) all-here narrow-here total (k .chosen .wide) (left-unsplit e))
+      let led : Leads st st (before-grant a shelf-at (shelf-at .after) (a .rows)) = leads-same st _ (subst (Stands st) same-atlas stands) in
+      let total : occupied (backOnto (shelf-at .before) (s ∷ shelf-at .after)) ≤ mostArea = rw (place .chosen .stands) at (shaped-narrow a (formed .shaped) .total) in
+      closed _ shelf-at (shelf-at .after) (a .rows) st
+      (placed st st a shelf-at item-at (shelf-at .after) (a .rows) q led (place .chosen .spot .stands) (place .chosen .spot .listed) all-here narrow-here total (place .chosen .wide) (left-unsplit e))
+      (grant-step st (fit-whole st a (shelf-at .before) s (shelf-at .after) q (place .chosen .stands) stands e))
+      (place .grant-is ∙ place-unsplit e)
+      (grant-leads st st a shelf-at item-at (shelf-at .after) (a .rows) q led (place .chosen .spot .stands) (place .chosen .spot .listed) all-here narrow-here total (place .chosen .wide) (left-unsplit e))
 
   -- ---- the shelf split first
 
-  abbrev d : ℕ
-  d = q .depth
+  -- the upper part in its place, what follows it, the rows once two are taken, and the state that the split leaves
+  abbrev depth-asked : ℕ
+  depth-asked = q .depth
 
-  abbrev g : Focus Shelf
-  g = record { before = f .before; this = upperPart d s; after = f .after }
+  abbrev upper-at : Focus Shelf
+  upper-at = record { before = shelf-at .before; this = upperPart depth-asked s; after = shelf-at .after }
 
   abbrev below : List Shelf
-  below = lowerPart (a .limits) (a .rows) d s ∷ f .after
+  below = lowerPart (a .limits) (a .rows) depth-asked s ∷ shelf-at .after
 
-  abbrev r : Rows
-  r = itemTaken (shelfTaken (a .rows))
+  abbrev rows-after : Rows
+  rows-after = itemTaken (shelfTaken (a .rows))
 
-  abbrev mid : State
-  mid = fitShelf st (onRow (s .row)) q
+  abbrev after-split : State
+  after-split = fitShelf st (onRow (s .row)) q
 
-  place-split : splitsShelf q s ≡ true → grantInShelf (roomIn S I) a q f w ≡ grantItem a q g w below r
+  place-split : splitsShelf q s ≡ true → grantInShelf (roomIn S I) a q shelf-at item-at ≡ grantItem a q upper-at item-at below rows-after
   unfolding grantInShelf
   place-split e = rw (suffice, e)
 
@@ -197,20 +200,20 @@ module _ (h : Header) (S I : List ℕ) (a : Atlas) (stored : Stores h S I a) (fo
   unfolding roomIn count
   left-both e x = omega (arith, enough (roomIn S I) (a .rows) true true (rw (e, x) at suffice) .1)
 
-  led-split : splitsShelf q s ≡ true → Leads st mid (before-grant a g below r)
-  led-split e = fit-split st a (f .before) s (f .after) q (k .chosen .stands) stands e (omega (arith, narrow-here .reach)) (left-split e .0) (left-split e .1)
+  led-split : splitsShelf q s ≡ true → Leads st after-split (before-grant a upper-at below rows-after)
+  led-split e = fit-split st a (shelf-at .before) s (shelf-at .after) q (place .chosen .stands) stands e (omega (arith, narrow-here .reach)) (left-split e .0) (left-split e .1)
 
-  left-then : splitsShelf q s ≡ true → splitsItem q i ≡ true → 0 < rowsLeft (rows items (mid .items)) (r .items)
+  left-then : splitsShelf q s ≡ true → splitsItem q i ≡ true → 0 < rowsLeft (rows items (after-split .items)) (rows-after .items)
   unfolding itemTaken shelfTaken
-  left-then e x = rw (rows-long items (mid .items) I (led-split e .items-past .as-long)) (left-after (rows items I) (a .rows .items) (left-both e x))
+  left-then e x = rw (rows-long items (after-split .items) I (led-split e .items-past .as-long)) (left-after (rows items I) (a .rows .items) (left-both e x))
 
-  all-split : Each AllListed (backOnto (f .before) (upperPart d s ∷ below))
+  all-split : Each AllListed (backOnto (shelf-at .before) (upperPart depth-asked s ∷ below))
   unfolding upperPart lowerPart
   all-split =
-      let (bs, ys) = each-split AllListed (f .before) (s ∷ f .after) all-here in
-      each-join AllListed (f .before) (upperPart d s ∷ below) bs (ys .0, (λ x m. m, ys .1))
+      let (bs, ys) = each-split AllListed (shelf-at .before) (s ∷ shelf-at .after) all-here in
+      each-join AllListed (shelf-at .before) (upperPart depth-asked s ∷ below) bs (ys .0, (λ x m. m, ys .1))
 
-  total-split : splitsShelf q s ≡ true → occupied (backOnto (f .before) (upperPart d s ∷ below)) ≤ mostArea
+  total-split : splitsShelf q s ≡ true → occupied (backOnto (shelf-at .before) (upperPart depth-asked s ∷ below)) ≤ mostArea
   unfolding headerOf
   total-split e =
       omega (
@@ -221,15 +224,16 @@ module _ (h : Header) (S I : List ℕ) (a : Atlas) (stored : Stores h S I a) (fo
         shaped-narrow a (formed .shaped) .total,
       )
 
+  -- the shelf is split, and the item granted in its upper part, in the state that the split led to
   split : splitsShelf q s ≡ true → Grants
   unfolding upperPart
   split e =
-      let narrow : NarrowShelf (upperPart d s) = upper-narrow s d (k .chosen .deep) narrow-here in
-      closed _ g below r mid
-      (pl st mid a g w below r q (led-split e) (k .chosen .spot .stands) (k .chosen .spot .listed) all-split narrow (total-split e) (k .chosen .wide) (left-then e))
-      (grant-step mid refl)
-      (k .grant-is ∙ place-split e)
-      (grant-leads st mid a g w below r q (led-split e) (k .chosen .spot .stands) (k .chosen .spot .listed) all-split narrow (total-split e) (k .chosen .wide) (left-then e))
+      let narrow : NarrowShelf (upperPart depth-asked s) = upper-narrow s depth-asked (place .chosen .deep) narrow-here in
+      closed _ upper-at below rows-after after-split
+      (placed st after-split a upper-at item-at below rows-after q (led-split e) (place .chosen .spot .stands) (place .chosen .spot .listed) all-split narrow (total-split e) (place .chosen .wide) (left-then e))
+      (grant-step after-split refl)
+      (place .grant-is ∙ place-split e)
+      (grant-leads st after-split a upper-at item-at below rows-after q (led-split e) (place .chosen .spot .stands) (place .chosen .spot .listed) all-split narrow (total-split e) (place .chosen .wide) (left-then e))
 
   pub grant-done : Grants
   grant-done = go (splitsShelf q s) refl where

@@ -1,4 +1,5 @@
--- A grant at a place: the item granted is found in the atlas that the rules make, and the step changes rows in use only. Assumes nothing.
+-- The item of a grant, once its shelf fits: the rules find the granted item where the step left it, and the step writes rows in use only. What
+-- stands in the tables then is in `Items/WholeOrPart`. Assumes nothing.
 use Rattle.numbers.specs.Library.{_≤_, _<_, _≡_, refl, ap, _∙_, inl, inr, Bool, true, false, some, List, [], _∷_, List·Memᴰ·head, Memᴰ·append-left, arith}
 use Rattle.numbers.specs.declared.request.Asked.{Asked}
 use Rattle.chains.specs.Prelude.{_∈_, Each, Focus, backOnto}
@@ -22,47 +23,49 @@ use Rattle.bridge.proofs.GrantWrites.{TakenRow, taken-row, whole-past, 
 
 -- the atlas in which the shelf of the place stands before `below`
 abbrev pub before-grant : Atlas → Focus Shelf → List Shelf → Rows → Atlas
-before-grant a f below r = record { limits = a .limits; shelves = backOnto (f .before) (f .this ∷ below); rows = r }
+before-grant a shelf-at below r = record { limits = a .limits; shelves = backOnto (shelf-at .before) (shelf-at .this ∷ below); rows = r }
 
 -- What a grant at a place comes to: the atlas after it, the item granted where it stands there, and tables changed in used rows only.
-pub record Placement (a : Atlas) (asked : Asked) (f : Focus Shelf) (w : Focus Item) (below : List Shelf) (r : Rows) (st : State) : Type 0 where
+pub record Placement (a : Atlas) (asked : Asked) (shelf-at : Focus Shelf) (item-at : Focus Item) (below : List Shelf) (r : Rows) (st : State) : Type 0 where
   pub after : Atlas
   pub found : Found
-  pub is : grantItem a asked f w below r ≡ grants (liveOf (a .limits) (f .this) (found .item .this)) after
-  pub found-at : FoundAt (w .this .row) (after .shelves) (after .shelves) (some found)
-  pub same-live : liveOf (after .limits) (found .shelf .this) (found .item .this) ≡ liveOf (a .limits) (f .this) (found .item .this)
+  pub is : grantItem a asked shelf-at item-at below r ≡ grants (liveOf (a .limits) (shelf-at .this) (found .item .this)) after
+  pub found-at : FoundAt (item-at .this .row) (after .shelves) (after .shelves) (some found)
+  pub same-live : liveOf (after .limits) (found .shelf .this) (found .item .this) ≡ liveOf (a .limits) (shelf-at .this) (found .item .this)
   pub more-shelves : r .shelves .used ≤ after .rows .shelves .used
   pub more-items : r .items .used ≤ after .rows .items .used
-  pub shelves-past : Past shelves (after .rows .shelves .used) (st .shelves) (takeItem st (onRow (f .this .row)) (atRow (w .this .row)) asked .shelves)
-  pub items-past : Past items (after .rows .items .used) (st .items) (takeItem st (onRow (f .this .row)) (atRow (w .this .row)) asked .items)
+  pub shelves-past : Past shelves (after .rows .shelves .used) (st .shelves) (takeItem st (onRow (shelf-at .this .row)) (atRow (item-at .this .row)) asked .shelves)
+  pub items-past : Past items (after .rows .items .used) (st .items) (takeItem st (onRow (shelf-at .this .row)) (atRow (item-at .this .row)) asked .items)
 
-module _ (st : State) (a : Atlas) (f : Focus Shelf) (w : Focus Item) (below : List Shelf) (r : Rows) (asked : Asked)
-    (items-are : f .this .items ≡ backOnto (w .before) (w .this ∷ w .after))
-    (stands : Stands st (before-grant a f below r)) (all : Each AllListed (backOnto (f .before) (f .this ∷ below)))
-    (left : splitsItem asked (w .this) ≡ true → 0 < rowsLeft (rows items (st .items)) (r .items)) where
+module _ (st : State) (a : Atlas) (shelf-at : Focus Shelf) (item-at : Focus Item) (below : List Shelf) (r : Rows) (asked : Asked)
+    (items-are : shelf-at .this .items ≡ backOnto (item-at .before) (item-at .this ∷ item-at .after))
+    (stands : Stands st (before-grant a shelf-at below r)) (all : Each AllListed (backOnto (shelf-at .before) (shelf-at .this ∷ below)))
+    (left : splitsItem asked (item-at .this) ≡ true → 0 < rowsLeft (rows items (st .items)) (r .items)) where
   abbrev s : Shelf
-  s = f .this
+  s = shelf-at .this
 
   abbrev i : Item
-  i = w .this
+  i = item-at .this
 
-  abbrev a₀ : Atlas
-  a₀ = before-grant a f below r
+  abbrev before : Atlas
+  before = before-grant a shelf-at below r
 
   shelf-used : s .row < r .shelves .used
   shelf-used =
-      stands .sound .shelf-rows .serving-used (s .row) (in-onto (λ (q : Shelf). q .row ∷ []) (s .row) (f .before) (s ∷ below) (inr (List·Memᴰ·head refl)))
+      stands .sound .shelf-rows .serving-used (s .row) (in-onto (λ (q : Shelf). q .row ∷ []) (s .row) (shelf-at .before) (s ∷ below) (inr (List·Memᴰ·head refl)))
 
   item-used : i .row < r .items .used
   item-used =
-      let mine : i .row ∈ itemRows (s .items) = rw items-are (in-onto (λ (q : Item). q .row ∷ []) (i .row) (w .before) (i ∷ w .after) (inr (List·Memᴰ·head refl))) in
-      stands .sound .item-rows .serving-used (i .row) (in-onto (λ (q : Shelf). itemRows (q .items)) (i .row) (f .before) (s ∷ below) (inr (Memᴰ·append-left (allItemRows below) mine)))
+      let mine : i .row ∈ itemRows (s .items) = rw items-are (in-onto (λ (q : Item). q .row ∷ []) (i .row) (item-at .before) (i ∷ item-at .after) (inr (List·Memᴰ·head refl))) in
+      stands .sound .item-rows .serving-used (i .row) (in-onto (λ (q : Shelf). itemRows (q .items)) (i .row) (shelf-at .before) (s ∷ below) (inr (Memᴰ·append-left (allItemRows below) mine)))
 
+  -- the used item rows link among themselves, so an edit that follows links stays within them
   links : LinksWithin (r .items .used) (st .items) (st .items)
-  links = links-within st a₀ stands all (omega (arith, item-used))
+  links = links-within st before stands all (omega (arith, item-used))
 
+  -- the step splits the item where the rules do
   chooses : (b : Bool) → splitsItem asked i ≡ b → splitsRow asked (get items (st .items) (i .row)) ≡ b
-  chooses b e = splits-same st a₀ (record { before = f .before; this = s; after = below }) w refl items-are stands asked ∙ e
+  chooses b e = splits-same st before (record { before = shelf-at .before; this = s; after = below }) item-at refl items-are stands asked ∙ e
 
   -- ---- the whole item
 
@@ -70,13 +73,13 @@ module _ (st : State) (a : Atlas) (f : Focus Shelf) (w : Focus Item) (below : Li
   unfolding takeItem
   whole-step e = rw (chooses false e)
 
-  whole : splitsItem asked i ≡ false → Placement a asked f w below r st
+  whole : splitsItem asked i ≡ false → Placement a asked shelf-at item-at below r st
   unfolding grantItem grantWhole grantedItem holding liveOf takeWhole
   whole e = record {
-    after = record { limits = a .limits; shelves = backOnto (f .before) (grantWhole s w ∷ below); rows = r };
+    after = record { limits = a .limits; shelves = backOnto (shelf-at .before) (grantWhole s item-at ∷ below); rows = r };
     found = record {
-      shelf = record { before = f .before; this = grantWhole s w; after = below };
-      item = record { before = w .before; this = grantedItem i (i .width); after = w .after };
+      shelf = record { before = shelf-at .before; this = grantWhole s item-at; after = below };
+      item = record { before = item-at .before; this = grantedItem i (i .width); after = item-at .after };
     };
     is = rw e;
     found-at = (refl, refl, refl);
@@ -96,36 +99,36 @@ module _ (st : State) (a : Atlas) (f : Focus Shelf) (w : Focus Item) (below : Li
   new-row : splitsItem asked i ≡ true → newItem (st .header) ≡ atRow (newRow freedRow (r .items))
   unfolding headerOf
   new-row e =
-      item-new (st .items) (st .header) (allItemRows (a₀ .shelves)) (r .items) (ap (λ (q : Header). q .«free_items» .0) (stands .stored .header)) (ap (λ (q : Header). q .«used_items») (stands .stored .header))
-      (used-items st a₀ stands) (left e) (stands .sound .item-rows) (stands .stored .freed-items)
+      item-new (st .items) (st .header) (allItemRows (before .shelves)) (r .items) (ap (λ (q : Header). q .«free_items» .0) (stands .stored .header)) (ap (λ (q : Header). q .«used_items») (stands .stored .header))
+      (used-items st before stands) (left e) (stands .sound .item-rows) (stands .stored .freed-items)
 
   part-items : splitsItem asked i ≡ true → Past items (taken (r .items) .used) (st .items) (takePart st (onRow (s .row)) (atRow (i .row)) (asked .width) .items)
   unfolding takePart
   part-items e =
-      let t : TakenRow freedRow (r .items) = taken-row freedRow (r .items) (allItemRows (a₀ .shelves)) (stands .sound .item-rows) in
-      let k : Fresh freedRow (rows items (st .items)) (allItemRows (a₀ .shelves)) (r .items) = fresh freedRow _ _ (r .items) (used-items st a₀ stands) (left e) (stands .sound .item-rows) in
+      let new : TakenRow freedRow (r .items) = taken-row freedRow (r .items) (allItemRows (before .shelves)) (stands .sound .item-rows) in
+      let unserved : Fresh freedRow (rows items (st .items)) (allItemRows (before .shelves)) (r .items) = fresh freedRow _ _ (r .items) (used-items st before stands) (left e) (stands .sound .item-rows) in
       part-past (r .items .used) (taken (r .items) .used) (st .items) (st .header) (atRow (i .row)) (asked .width) links item-used
-      (t .more) (k .in-room) (rw (new-row e) (t .there)) (rw (new-row e) (t .cover))
+      (new .more) (unserved .in-room) (rw (new-row e) (new .there)) (rw (new-row e) (new .cover))
 
-  part : splitsItem asked i ≡ true → Placement a asked f w below r st
+  part : splitsItem asked i ≡ true → Placement a asked shelf-at item-at below r st
   unfolding grantItem grantPart grantedItem holding liveOf itemTaken takePart
   part e = record {
-    after = record { limits = a .limits; shelves = backOnto (f .before) (grantPart r s w (asked .width) ∷ below); rows = itemTaken r };
+    after = record { limits = a .limits; shelves = backOnto (shelf-at .before) (grantPart r s item-at (asked .width) ∷ below); rows = itemTaken r };
     found = record {
-      shelf = record { before = f .before; this = grantPart r s w (asked .width); after = below };
-      item = record { before = w .before; this = grantedItem i (asked .width); after = _ };
+      shelf = record { before = shelf-at .before; this = grantPart r s item-at (asked .width); after = below };
+      item = record { before = item-at .before; this = grantedItem i (asked .width); after = _ };
     };
     is = rw e;
     found-at = (refl, refl, refl);
     same-live = refl;
     more-shelves = omega arith;
-    more-items = taken-row freedRow (r .items) (allItemRows (a₀ .shelves)) (stands .sound .item-rows) .more;
+    more-items = taken-row freedRow (r .items) (allItemRows (before .shelves)) (stands .sound .item-rows) .more;
     shelves-past = rw (part-step e) (use-past (r .shelves .used) (st .shelves) (onRow (s .row)) (atRow (i .row)) _ shelf-used);
     items-past = rw (part-step e) (part-items e);
   }
 
-  pub placement : Placement a asked f w below r st
+  pub placement : Placement a asked shelf-at item-at below r st
   placement = go (splitsItem asked i) refl where
-    go : (b : Bool) → splitsItem asked i ≡ b → Placement a asked f w below r st
+    go : (b : Bool) → splitsItem asked i ≡ b → Placement a asked shelf-at item-at below r st
     go true e = part e
     go false e = whole e

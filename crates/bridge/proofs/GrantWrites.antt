@@ -1,4 +1,5 @@
--- A grant changes item rows in use only, those that are then in use included, and one shelf row. Assumes nothing.
+-- Which rows a grant writes: item rows in use, the one that it takes into use among them, and one shelf row. So all past them stays as it was.
+-- Assumes nothing.
 use Rattle.numbers.specs.Library.{ℕ, _+_, _≤_, _<_, _≡_, refl, _⊎_, inl, inr, List, [], _∷_, List·Memᴰ·head, ℕ-discrete, arith}
 use Rattle.numbers.specs.declared.{index.ItemIndex.ItemIndex, index.ShelfIndex.ShelfIndex}
 use Rattle.rows.specs.Prelude.{rows, get, Past, past-same, past-change, items, shelves}
@@ -33,12 +34,14 @@ module _ {E : Type 0} (row : E → ℕ) where
 
 -- ---- the item table
 
+-- an item granted whole is taken off its free list and marked
 pub whole-past : (n : ℕ) (I : List ℕ) (at : ItemIndex) → LinksWithin n I I → Below n (at .0) → Past items n I (takeWholeItems I at)
 unfolding takeWholeItems
 whole-past n I at w b = within-change (within-unlist w at b) (at .0) markLive b (linked-live n) .past
 
 module _ (m n : ℕ) (I : List ℕ) (h : Header) (at : ItemIndex) (width : ℕ) (w : LinksWithin m I I) (b : at .0 < m)
     (more : m ≤ n) (room : n ≤ rows items I) (there : newItem h .0 < n) (cover : (r : ℕ) → r < n → (r ≡ newItem h .0) ⊎ (r < m)) where
+  -- the new row is in use then, and the rows that are written besides are the item and the one that it links to
   within-split : LinksWithin n I (splitItem h I at width)
   unfolding splitItem addItem
   within-split =

@@ -1,5 +1,5 @@
--- A step from one state to another in which an atlas stands, and which leaves all past that atlas's used rows as it was.
--- Assumes nothing.
+-- The relation that is shown of each step: it leads from one state to another in which an atlas stands, and all past that atlas's used rows stays as
+-- it was. Such steps compose. Assumes nothing.
 use Rattle.numbers.specs.Library.{_≤_}
 use Rattle.rows.specs.Prelude.{Past, past-same, past-more, past-then, items, shelves}
 use Rattle.rules.specs.Prelude.{Atlas}

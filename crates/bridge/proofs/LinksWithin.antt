@@ -1,4 +1,5 @@
--- Item rows that link among themselves: an edit of such a table follows its links, so it changes none of the rows after them. Assumes nothing.
+-- Item rows whose links lead to the first n rows only, or to none. An edit of the item table writes the row that it is given and rows that links lead
+-- to, so in such a table it writes none of the rows after the first n, and the table stays such a one. Assumes nothing.
 use Rattle.numbers.specs.Library.{ℕ, _≤_, _<_, _≡_, refl, _⊎_, inl, inr, ⊎-elim, List, ℕ-discrete, arith}
 use Rattle.numbers.specs.Prelude.{noRow, noItem}
 use Rattle.numbers.specs.declared.index.ItemIndex.{ItemIndex}
@@ -92,7 +93,7 @@ module _ (n : ℕ) where
   unfolding freedItemRow withItemNext withGeneration
   linked-freed some x generation b = record { prev = inl some; next = b; prev-free = inl some; next-free = inl some }
 
--- ---- the edits
+-- ---- the edits: each writes rows that it reaches along links, and writes links that it has read
 
 module _ {n : ℕ} {I₀ I : List ℕ} (w : LinksWithin n I₀ I) where
   pub within-unlist : (at : ItemIndex) → Below n (at .0) → LinksWithin n I₀ (unlist I at)

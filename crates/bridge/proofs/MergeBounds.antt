@@ -1,4 +1,5 @@
--- What the merges of a release do to the rows in use and to the depth of the shelf that is left. Assumes nothing.
+-- Two bounds on what the merges of a release do: as many rows stay in use as there were, and shelves that are merged are together no deeper than the
+-- one that is left, so that their depth fits a row where that one's does. Assumes nothing.
 use Rattle.numbers.specs.Library.{ℕ, _+_, _≤_, _≡_, refl, sym, ap, _∙_, true, false, false≢true, List, [], _∷_, arith}
 use Rattle.rules.specs.Prelude.{Item, Shelf, Rows, Loose, Stack, freeing, freeItemRow, freeShelfRow, freeShelf, deeper, joins, mergeNext, mergeInto, mergeBelow}
 use Rattle.rules.specs.Prelude.{mergeAbove}
@@ -59,6 +60,7 @@ JoinsWithin d s t = joins s t ≡ true → s .depth + t .depth ≤ d
 no-join : (d : ℕ) (s t : Shelf) → joins s t ≡ false → JoinsWithin d s t
 no-join d s t e j = absurd (false≢true (sym e ∙ j))
 
+-- in each case of the merge: where the two join, the shelf that is left is as deep as both
 above-deep : (m : Stack) → (((p : Shelf) (bs : List Shelf) → m .shelves .before ≡ p ∷ bs → JoinsWithin (depthOf (mergeAbove m)) p (m .shelves .this)) × (depthOf m ≤ depthOf (mergeAbove m)))
 unfolding deeper
 above-deep m =

@@ -44,13 +44,13 @@ same-outcome S₁ I₁ S₂ I₂ h₁ h₂ S₁′ I₁′ S₂′ I₂′ a′ 
 pub one-outcome : (S I : List ℕ) (h₁ h₂ : Header) (S₁ I₁ S₂ I₂ : List ℕ) (a′ : Atlas) → Becomes S I h₁ S₁ I₁ a′ → Becomes S I h₂ S₂ I₂ a′ → (h₁ ≡ h₂) × (S₁ ≡ S₂) × (I₁ ≡ I₂)
 one-outcome S I h₁ h₂ S₁ I₁ S₂ I₂ a′ b c =
     let same : SameUsed h₁ h₂ S₁ S₂ I₁ I₂ = same-outcome S I S I h₁ h₂ S₁ I₁ S₂ I₂ a′ b c in
-    let p : Past shelves (a′ .rows .shelves .used) S S₁ = b .shelves-past in
-    let p′ : Past shelves (a′ .rows .shelves .used) S S₂ = c .shelves-past in
-    let q : Past items (a′ .rows .items .used) I I₁ = b .items-past in
-    let q′ : Past items (a′ .rows .items .used) I I₂ = c .items-past in (
+    let shelves₁ : Past shelves (a′ .rows .shelves .used) S S₁ = b .shelves-past in
+    let shelves₂ : Past shelves (a′ .rows .shelves .used) S S₂ = c .shelves-past in
+    let items₁ : Past items (a′ .rows .items .used) I I₁ = b .items-past in
+    let items₂ : Past items (a′ .rows .items .used) I I₂ = c .items-past in (
       same .header,
-      same-shelves h₁ h₂ S₁ S₂ I₁ I₂ same (p .as-long ∙ sym (p′ .as-long)) (p .rest-kept ∙ sym (p′ .rest-kept))
-          (λ r m. let n : a′ .rows .shelves .used ≤ r = omega (arith, used-shelves S I h₁ S₁ I₁ a′ b) in p .later r n ∙ sym (p′ .later r n)),
-      same-items h₁ h₂ S₁ S₂ I₁ I₂ same (q .as-long ∙ sym (q′ .as-long)) (q .rest-kept ∙ sym (q′ .rest-kept))
-          (λ r m. let n : a′ .rows .items .used ≤ r = omega (arith, used-items S I h₁ S₁ I₁ a′ b) in q .later r n ∙ sym (q′ .later r n)),
+      same-shelves h₁ h₂ S₁ S₂ I₁ I₂ same (shelves₁ .as-long ∙ sym (shelves₂ .as-long)) (shelves₁ .rest-kept ∙ sym (shelves₂ .rest-kept))
+          (λ r m. let n : a′ .rows .shelves .used ≤ r = omega (arith, used-shelves S I h₁ S₁ I₁ a′ b) in shelves₁ .later r n ∙ sym (shelves₂ .later r n)),
+      same-items h₁ h₂ S₁ S₂ I₁ I₂ same (items₁ .as-long ∙ sym (items₂ .as-long)) (items₁ .rest-kept ∙ sym (items₂ .rest-kept))
+          (λ r m. let n : a′ .rows .items .used ≤ r = omega (arith, used-items S I h₁ S₁ I₁ a′ b) in items₁ .later r n ∙ sym (items₂ .later r n)),
     )

@@ -1,4 +1,5 @@
--- What the search of the tables holds, and what the rules grant there: answers 6 and 7, and the place of a grant. Assumes nothing.
+-- What comes of a search, in the tables as in the rules: answer 6 where it holds nothing, answer 7 where the rows left don't suffice for the place that
+-- it holds, and else that place, where the rules grant too. Assumes nothing.
 use Rattle.numbers.specs.Library.{ℕ, _≡_, refl, sym, ap, _∙_, subst, _⊎_, inl, inr, ⊎-elim, Bool, true, false, not, some, List, [], arith}
 use Rattle.numbers.specs.declared.request.Asked.{Asked}
 use Rattle.chains.specs.Prelude.{Focus}
@@ -67,52 +68,54 @@ module _ (h : Header) (S I : List ℕ) (a : Atlas) (stored : Stores h S I a) (fo
   unfolding grantRow
   at-found f row w e = rw (e, grantRow)
 
-  held-at : (p : Place) (k : Holding (rule.search q (a .shelves)) p) (w : Focus Item) → findItem (k .row) [] (k .shelf .this .items) ≡ some w → Chosen a q (k .shelf) w → PlaceHeld p
-  held-at p k w e c = record {
-    shelf = k .shelf;
-    item = w;
+  held-at : (p : Place) (holding : Holding (rule.search q (a .shelves)) p) (item-at : Focus Item) → findItem (holding .row) [] (holding .shelf .this .items) ≡ some item-at → Chosen a q (holding .shelf) item-at → PlaceHeld p
+  held-at p holding item-at e c = record {
+    shelf = holding .shelf;
+    item = item-at;
     chosen = c;
-    is = k .is ∙ ap (λ (r : ℕ). record { shelf = onRow (k .shelf .this .row); item = atRow r; height = k .shelf .this .depth }) (sym (found .1));
-    grant-is = grant-at (k .shelf) (k .row) (k .held) ∙ at-found (k .shelf) (k .row) w e;
+    is = holding .is ∙ ap (λ (r : ℕ). record { shelf = onRow (holding .shelf .this .row); item = atRow r; height = holding .shelf .this .depth }) (sym (found .1));
+    grant-is = grant-at (holding .shelf) (holding .row) (holding .held) ∙ at-found (holding .shelf) (holding .row) item-at e;
   } where
-    found : FoundItem (k .row) (k .shelf .this .items) (k .shelf .this .items) (some w)
-    found = subst (FoundItem (k .row) (k .shelf .this .items) (k .shelf .this .items)) e (find-item (k .row) [] (k .shelf .this .items))
+    found : FoundItem (holding .row) (holding .shelf .this .items) (holding .shelf .this .items) (some item-at)
+    found = subst (FoundItem (holding .row) (holding .shelf .this .items) (holding .shelf .this .items)) e (find-item (holding .row) [] (holding .shelf .this .items))
 
+  -- the row held is an item of the shelf held, since the walk holds rows of the free list only
   pub place-held : (p : Place) → (table.search h S I q ≡ Good p) ⊎ (table.search h S I q ≡ Bad p) → PlaceHeld p
   place-held p o =
-      let k : Holding (rule.search q (a .shelves)) p = some-held (rule.search q (a .shelves)) p (⊎-elim (λ e. inl (sym says ∙ e)) (λ e. inr (sym says ∙ e)) o) in
-      let (w, e, c) = search-finds (roomIn S I) a q (k .shelf) (k .row) formed (search-holds q (a .shelves) (k .shelf) (k .row) (k .held)) in
-      held-at p k w e c
+      let holding : Holding (rule.search q (a .shelves)) p = some-held (rule.search q (a .shelves)) p (⊎-elim (λ e. inl (sym says ∙ e)) (λ e. inr (sym says ∙ e)) o) in
+      let (item-at, e, c) = search-finds (roomIn S I) a q (holding .shelf) (holding .row) formed (search-holds q (a .shelves) (holding .shelf) (holding .row) (holding .held)) in
+      held-at p holding item-at e c
 
   -- ---- the rows that a place needs
 
-  module _ (p : Place) (k : PlaceHeld p) where
+  module _ (p : Place) (place : PlaceHeld p) where
     abbrev found : Found
-    found = record { shelf = k .shelf; item = k .item }
+    found = record { shelf = place .shelf; item = place .item }
 
-    rows-enough : hasRows h S I p q ≡ not (tooFewRows (roomIn S I) (a .rows) (splitsShelf q (k .shelf .this)) (splitsItem q (k .item .this)))
+    rows-enough : hasRows h S I p q ≡ not (tooFewRows (roomIn S I) (a .rows) (splitsShelf q (place .shelf .this)) (splitsItem q (place .item .this)))
     unfolding bodyOf
     rows-enough =
-        ap (λ (x : Place). hasRows h S I x q) (k .is)
-        ∙ rows-say h S I a stored formed q (k .shelf .this) _ _
-        (shelf-says h S I a stored (formed .sound) found (k .item .this .row) (k .chosen .stands, k .chosen .spot .stands, refl))
-        (k .item .this)
-        (ap (λ (b : Body). b .width) (item-says h S I a stored (formed .sound) found (k .chosen .stands, k .chosen .spot .stands, refl)))
-        (k .shelf .this .depth)
+        ap (λ (x : Place). hasRows h S I x q) (place .is)
+        ∙ rows-say h S I a stored formed q (place .shelf .this) _ _
+        (shelf-says h S I a stored (formed .sound) found (place .item .this .row) (place .chosen .stands, place .chosen .spot .stands, refl))
+        (place .item .this)
+        (ap (λ (b : Body). b .width) (item-says h S I a stored (formed .sound) found (place .chosen .stands, place .chosen .spot .stands, refl)))
+        (place .shelf .this .depth)
 
+    -- the tables' test is the rules' test turned round
     turned : (b c d : Bool) → b ≡ not c → b ≡ not d → c ≡ d
     turned b true true e f = refl
     turned b false false e f = refl
     turned b true false e f = absurd (let z : _≡_ {A = Bool} true false = sym f ∙ e in let y : _≡_ {A = ℕ} 0 1 = cc in omega arith)
     turned b false true e f = absurd (let z : _≡_ {A = Bool} true false = sym e ∙ f in let y : _≡_ {A = ℕ} 0 1 = cc in omega arith)
 
-    few-rows : (b : Bool) → hasRows h S I p q ≡ not b → tooFewRows (roomIn S I) (a .rows) (splitsShelf q (k .shelf .this)) (splitsItem q (k .item .this)) ≡ b
+    few-rows : (b : Bool) → hasRows h S I p q ≡ not b → tooFewRows (roomIn S I) (a .rows) (splitsShelf q (place .shelf .this)) (splitsItem q (place .item .this)) ≡ b
     few-rows b e = turned (hasRows h S I p q) _ b rows-enough e
 
     -- answer 7
     pub refuses-7 : hasRows h S I p q ≡ false → grant (roomIn S I) a q ≡ refused 7
     unfolding grantInShelf
-    refuses-7 e = k .grant-is ∙ rw (few-rows true e)
+    refuses-7 e = place .grant-is ∙ rw (few-rows true e)
 
-    pub rows-suffice : hasRows h S I p q ≡ true → tooFewRows (roomIn S I) (a .rows) (splitsShelf q (k .shelf .this)) (splitsItem q (k .item .this)) ≡ false
+    pub rows-suffice : hasRows h S I p q ≡ true → tooFewRows (roomIn S I) (a .rows) (splitsShelf q (place .shelf .this)) (splitsItem q (place .item .this)) ≡ false
     rows-suffice e = few-rows false e

@@ -1,4 +1,5 @@
--- What the calls answer that change nothing: look-up, list, totals, size and is_empty, and the refusals of a release. Assumes nothing.
+-- The answers of the calls that change nothing: look-up, list, totals, size and is_empty; and of a release of an id that names no live item.
+-- Assumes nothing.
 use Rattle.numbers.specs.Library.{ℕ, zero, suc, _+_, _*_, _≤_, _<_, _≡_, refl, sym, ap, _∙_, Bool, true, false, not, _&&_, false≢true, Option, none, some, List}
 use Rattle.numbers.specs.Library.{[], _∷_, arith, mul-le-mul, eqb, ne-eqb}
 use Rattle.numbers.specs.Prelude.{pick, firstAxis, secondAxis, spaceLeft}
@@ -18,6 +19,7 @@ use Rattle.bridge.proofs.Items.NoWrap.{occupied-within}
 -- ---- an id that names a live item, and one that names none
 
 module _ (h : Header) (S I : List ℕ) (p : Passes h S I) (row generation : ℕ) where
+  -- the atlas that is met in the tables, and what it says of the id
   abbrev a : Atlas
   a = atlasIn h S I
 
@@ -66,8 +68,8 @@ module _ (h : Header) (S I : List ℕ) (p : Passes h S I) where
   pub occupied-fits : h .occupied ≤ h .limits .width * h .limits .height
   unfolding atlasIn
   occupied-fits =
-      let k = formed h S I p .shaped in
-      omega (arith, occupied-is, occupied-within (atlasIn h S I .limits) (k .limits) (atlasIn h S I .shelves) (k .stacked) (k .filled))
+      let shape = formed h S I p .shaped in
+      omega (arith, occupied-is, occupied-within (atlasIn h S I .limits) (shape .limits) (atlasIn h S I .shelves) (shape .stacked) (shape .filled))
 
   pub free-is : freeSpace (atlasIn h S I) ≡ spaceLeft (h .limits) (h .occupied)
   unfolding freeSpace atlasIn
@@ -81,7 +83,7 @@ module _ (h : Header) (S I : List ℕ) (p : Passes h S I) where
   unfolding sizeY secondAxis atlasIn
   size-y-is = refl
 
--- ---- an atlas is empty exactly when nothing is occupied
+-- ---- an atlas is empty exactly when nothing is occupied, since every item has an area and two free ones never stand side by side
 
 -- the live area of a shelf that its items fill is nothing exactly when it is one free item
 module _ (d : ℕ) (some-depth : 1 ≤ d) where
@@ -122,6 +124,6 @@ all-empty l wide (s ∷ ss) p f n =
 pub empty-is : (h : Header) (S I : List ℕ) (p : Passes h S I) → allEmpty (atlasIn h S I .shelves) ≡ isVacant h
 unfolding isVacant
 empty-is h S I p =
-    let k = formed h S I p .shaped in
-    all-empty (atlasIn h S I .limits) (k .limits .S-least) (atlasIn h S I .shelves) (stacked-placed (atlasIn h S I .limits) 0 0 (atlasIn h S I .shelves) (k .stacked)) (k .filled) (k .free-apart)
+    let shape = formed h S I p .shaped in
+    all-empty (atlasIn h S I .limits) (shape .limits .S-least) (atlasIn h S I .shelves) (stacked-placed (atlasIn h S I .limits) 0 0 (atlasIn h S I .shelves) (shape .stacked)) (shape .filled) (shape .free-apart)
     ∙ ap (λ (n : ℕ). eqb n 0) (occupied-is h S I p)

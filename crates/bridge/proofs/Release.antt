@@ -1,4 +1,5 @@
--- A release, whole: what it leaves in header and tables is the atlas that the rules make. Assumes nothing.
+-- A release as a whole, in two steps: the item is made free and merged with its neighbours on its shelf, then the shelf, where that left it empty, with
+-- the empty shelves around it. What both leave in header and tables is the atlas that the rules make. Assumes nothing.
 use Rattle.numbers.specs.Library.{ℕ, _≤_, _<_, _≡_, refl, sym, ap, subst, inl, inr, true, some, List, [], _∷_, List·Memᴰ·head, Memᴰ·append-left, arith}
 use Rattle.numbers.specs.declared.index.ShelfIndex.{ShelfIndex}
 use Rattle.chains.specs.Prelude.{_∈_, backOnto}
@@ -32,18 +33,25 @@ use Rattle.bridge.proofs.MergeBounds.{SameUse, loose-use, stack-use, lo
 release-step : (st : State) (on row : ℕ) → get items (st .items) row .shelf ≡ onRow on
     → releaseAt st (atRow row) ≡ mergeAboveAt (mergeBelowAt (releaseItem st (onRow on) (atRow row)) (onRow on)) (onRow on)
 unfolding releaseAt
-release-step st on row e = ap (λ (k : ShelfIndex). mergeAboveAt (mergeBelowAt (releaseItem st k (atRow row)) k) k) e
+release-step st on row e = ap (λ (at : ShelfIndex). mergeAboveAt (mergeBelowAt (releaseItem st at (atRow row)) at) at) e
 
-module _ (h : Header) (S I : List ℕ) (a : Atlas) (stored : Stores h S I a) (formed : WellFormed (roomIn S I) a) (row : ℕ) (w : Found)
-    (found : FoundAt row (a .shelves) (a .shelves) (some w)) (was-live : w .item .this .live ≡ true) where
+module _ (h : Header) (S I : List ℕ) (a : Atlas) (stored : Stores h S I a) (formed : WellFormed (roomIn S I) a) (row : ℕ) (spot : Found)
+    (found : FoundAt row (a .shelves) (a .shelves) (some spot)) (was-live : spot .item .this .live ≡ true) where
   abbrev st : State
   st = state h S I
 
   abbrev s : Shelf
-  s = w .shelf .this
+  s = spot .shelf .this
 
   abbrev i : Item
-  i = w .item .this
+  i = spot .item .this
+
+  -- the item and its shelf are where they were found
+  shelves-are : a .shelves ≡ backOnto (spot .shelf .before) (s ∷ spot .shelf .after)
+  shelves-are = found .0
+
+  items-are : s .items ≡ backOnto (spot .item .before) (i ∷ spot .item .after)
+  items-are = found .1
 
   stands : Stands st a
   stands = record { stored = stored; sound = formed .sound }
@@ -51,91 +59,93 @@ module _ (h : Header) (S I : List ℕ) (a : Atlas) (stored : Stores h S I a) (fo
   -- ---- the item is in use, and so is its shelf
 
   item-used : i .row < a .rows .items .used
-  item-used = found-used h S I a stored formed w (i .row) (found .0, found .1, refl)
+  item-used = found-used h S I a stored formed spot (i .row) (shelves-are, items-are, refl)
 
   shelf-used : s .row < a .rows .shelves .used
   shelf-used =
       formed .sound .shelf-rows .serving-used (s .row)
-      (rw (found .0) (in-onto (λ (q : Shelf). q .row ∷ []) (s .row) (w .shelf .before) (s ∷ w .shelf .after) (inr (List·Memᴰ·head refl))))
+      (rw shelves-are (in-onto (λ (q : Shelf). q .row ∷ []) (s .row) (spot .shelf .before) (s ∷ spot .shelf .after) (inr (List·Memᴰ·head refl))))
 
   listed : FreeListed s
-  listed = each-split FreeListed (w .shelf .before) (s ∷ w .shelf .after) (rw (found .0) at (formed .sound .free-listed)) .1 .0
+  listed = each-split FreeListed (spot .shelf .before) (s ∷ spot .shelf .after) (rw shelves-are at (formed .sound .free-listed)) .1 .0
 
   all : AllListed s
-  all = each-split AllListed (w .shelf .before) (s ∷ w .shelf .after) (rw (found .0) at (formed .shaped .all-listed)) .1 .0
+  all = each-split AllListed (spot .shelf .before) (s ∷ spot .shelf .after) (rw shelves-are at (formed .shaped .all-listed)) .1 .0
 
   narrow-here : NarrowShelf s
-  narrow-here = shelf-narrow a (formed .shaped) (w .shelf .before) s (w .shelf .after) (found .0)
+  narrow-here = shelf-narrow a (formed .shaped) (spot .shelf .before) s (spot .shelf .after) shelves-are
 
   -- its free list starts with a row in use, or with none
   free-head : Below (a .rows .items .used) (get shelves S (s .row) .«first_unallocated» .0)
   free-head =
-      let mine : (r : ℕ) → r ∈ s .free → r ∈ itemRows (s .items) = λ r m. free-row (s .items) r (listed .only r m) in
-      subst (Below (a .rows .items .used)) (sym (ap (λ (v : ShelfRow). v .«first_unallocated» .0) (shelf-says st a stands (w .shelf .before) s (w .shelf .after) (found .0))))
-      (first-below free (a .rows .items .used) (s .free) (λ r m. formed .sound .item-rows .serving-used r
-      (rw (found .0) (in-onto (λ (q : Shelf). itemRows (q .items)) r (w .shelf .before) (s ∷ w .shelf .after) (inr (Memᴰ·append-left (allItemRows (w .shelf .after)) (mine r (rw self at m))))))))
+      let mine : (r : ℕ) → r ∈ s .free → r ∈ itemRows (s .items) = λ r mem. free-row (s .items) r (listed .only r mem) in
+      subst (Below (a .rows .items .used)) (sym (ap (λ (v : ShelfRow). v .«first_unallocated» .0) (shelf-says st a stands (spot .shelf .before) s (spot .shelf .after) shelves-are)))
+      (first-below free (a .rows .items .used) (s .free) (λ r mem. formed .sound .item-rows .serving-used r
+      (rw shelves-are (in-onto (λ (q : Shelf). itemRows (q .items)) r (spot .shelf .before) (s ∷ spot .shelf .after) (inr (Memᴰ·append-left (allItemRows (spot .shelf .after)) (mine r (rw self at mem))))))))
 
   freed-head : Below (a .rows .items .used) (h .«free_items» .0)
   unfolding headerOf
   freed-head = subst (Below (a .rows .items .used)) (sym (ap (λ (q : Header). q .«free_items» .0) (stored .header))) (head-below st a stands (formed .shaped .all-listed))
 
-  -- ---- the item loosened
+  -- ---- the first step: the item loosened
 
-  abbrev m : Loose
-  m = mergeInto (mergeNext (record { items = w .item; free = s .free; rows = a .rows }))
+  -- its shelf's items once it is merged with its free neighbours, the shelves around them, and the atlas and the state of both
+  abbrev loose : Loose
+  loose = mergeInto (mergeNext (record { items = spot .item; free = s .free; rows = a .rows }))
 
-  abbrev k : Stack
-  k = record { shelves = record { before = w .shelf .before; this = holding s (itemsOf m) (m .free); after = w .shelf .after }; rows = m .rows }
+  abbrev stack : Stack
+  stack = record { shelves = record { before = spot .shelf .before; this = holding s (itemsOf loose) (loose .free); after = spot .shelf .after }; rows = loose .rows }
 
-  abbrev a₁ : Atlas
-  a₁ = record { limits = a .limits; shelves = backOnto (w .shelf .before) (holding s (itemsOf m) (m .free) ∷ w .shelf .after); rows = m .rows }
+  abbrev loosened-atlas : Atlas
+  loosened-atlas = record { limits = a .limits; shelves = backOnto (spot .shelf .before) (holding s (itemsOf loose) (loose .free) ∷ spot .shelf .after); rows = loose .rows }
 
-  abbrev st₁ : State
-  st₁ = releaseItem st (onRow (s .row)) (atRow (i .row))
+  abbrev loosened-state : State
+  loosened-state = releaseItem st (onRow (s .row)) (atRow (i .row))
 
-  as-used : SameUse (a .rows) (m .rows)
-  as-used = loose-use (record { items = w .item; free = s .free; rows = a .rows })
+  as-used : SameUse (a .rows) (loose .rows)
+  as-used = loose-use (record { items = spot .item; free = s .free; rows = a .rows })
 
-  loosened : Leads st st₁ a₁
+  loosened : Leads st loosened-state loosened-atlas
   loosened = record {
-    stands = release-stands st a w (found .0) (found .1) was-live all stands narrow-here (shaped-narrow a (formed .shaped) .total);
-    shelves-past = released-shelves st (onRow (s .row)) (atRow (i .row)) (m .rows .shelves .used) (omega (arith, as-used .shelves, shelf-used));
+    stands = release-stands st a spot shelves-are items-are was-live all stands narrow-here (shaped-narrow a (formed .shaped) .total);
+    shelves-past = released-shelves st (onRow (s .row)) (atRow (i .row)) (loose .rows .shelves .used) (omega (arith, as-used .shelves, shelf-used));
     items-past = rw (as-used .items) (released-items st (onRow (s .row)) (atRow (i .row)) (a .rows .items .used) (links-within st a stands (formed .shaped .all-listed) (omega (arith, item-used))) freed-head free-head (inl item-used));
   }
 
-  -- ---- the shelves merged
+  -- ---- the second step: the shelves merged
 
-  abbrev k′ : Stack
-  k′ = mergeAbove (mergeBelow k)
+  abbrev merged-stack : Stack
+  merged-stack = mergeAbove (mergeBelow stack)
 
-  abbrev a′ : Atlas
-  a′ = record { limits = a .limits; shelves = backOnto (k′ .shelves .before) (k′ .shelves .this ∷ k′ .shelves .after); rows = k′ .rows }
+  abbrev released-atlas : Atlas
+  released-atlas = record { limits = a .limits; shelves = backOnto (merged-stack .shelves .before) (merged-stack .shelves .this ∷ merged-stack .shelves .after); rows = merged-stack .rows }
 
-  is-release : releaseFound a w ≡ a′
+  is-release : releaseFound a spot ≡ released-atlas
   unfolding releaseFound
   is-release = refl
 
-  shaped : Shaped a′
-  shaped = rw is-release at (release-shape _ a formed row w found)
+  shaped : Shaped released-atlas
+  shaped = rw is-release at (release-shape _ a formed row spot found)
 
-  fits : k′ .shelves .this .depth ≤ 65535
+  -- an atlas in shape has no shelf deeper than itself
+  fits : merged-stack .shelves .this .depth ≤ 65535
   fits =
       omega (
         arith,
         shaped .limits .sizes .H-most,
-        each-split (Placed (a .limits)) (k′ .shelves .before) (k′ .shelves .this ∷ k′ .shelves .after) (stacked-placed (a .limits) 0 0 (a′ .shelves) (shaped .stacked)) .1 .0,
+        each-split (Placed (a .limits)) (merged-stack .shelves .before) (merged-stack .shelves .this ∷ merged-stack .shelves .after) (stacked-placed (a .limits) 0 0 (released-atlas .shelves) (shaped .stacked)) .1 .0,
       )
 
-  merged : Leads st₁ (mergeAboveAt (mergeBelowAt st₁ (onRow (s .row))) (onRow (s .row))) a′
+  merged : Leads loosened-state (mergeAboveAt (mergeBelowAt loosened-state (onRow (s .row))) (onRow (s .row))) released-atlas
   unfolding holding
-  merged = merge-both st₁ (a .limits) k (low-below k fits) (low-above k fits) (loosened .stands)
+  merged = merge-both loosened-state (a .limits) stack (low-below stack fits) (low-above stack fits) (loosened .stands)
 
-  leads : Leads st (releaseAt st (atRow (i .row))) a′
+  leads : Leads st (releaseAt st (atRow (i .row))) released-atlas
   leads =
-      rw (release-step st (s .row) (i .row) (names-shelf st a (w .shelf) (w .item) (found .0) (found .1) stands))
-      (leads-then (omega (arith, stack-use k .shelves)) (omega (arith, stack-use k .items)) loosened merged)
+      rw (release-step st (s .row) (i .row) (names-shelf st a (spot .shelf) (spot .item) shelves-are items-are stands))
+      (leads-then (omega (arith, stack-use stack .shelves)) (omega (arith, stack-use stack .items)) loosened merged)
 
-  pub release-becomes : Becomes S I (releaseAt st (atRow row) .header) (releaseAt st (atRow row) .shelves) (releaseAt st (atRow row) .items) (releaseFound a w)
+  pub release-becomes : Becomes S I (releaseAt st (atRow row) .header) (releaseAt st (atRow row) .shelves) (releaseAt st (atRow row) .items) (releaseFound a spot)
   release-becomes =
-      subst (λ (r : ℕ). Becomes S I (releaseAt st (atRow r) .header) (releaseAt st (atRow r) .shelves) (releaseAt st (atRow r) .items) (releaseFound a w)) (found .2)
-      (rw is-release (becomes h S I (releaseAt st (atRow (i .row))) a′ leads shaped))
+      subst (λ (r : ℕ). Becomes S I (releaseAt st (atRow r) .header) (releaseAt st (atRow r) .shelves) (releaseAt st (atRow r) .items) (releaseFound a spot)) (found .2)
+      (rw is-release (becomes h S I (releaseAt st (atRow (i .row))) released-atlas leads shaped))

@@ -1,4 +1,4 @@
--- A release changes item rows in use only, and one shelf row. Assumes nothing.
+-- Which rows a release writes before shelves are merged: item rows in use, and one shelf row. So all past them stays as it was. Assumes nothing.
 use Rattle.numbers.specs.Library.{ℕ, _<_, inl, List, eqb}
 use Rattle.numbers.specs.declared.{index.ItemIndex.ItemIndex, index.ShelfIndex.ShelfIndex}
 use Rattle.rows.specs.Prelude.{get, Past, past-same, past-change, items, shelves, shelfAt, withFreeItems, withOccupied}
@@ -20,30 +20,33 @@ first-after : (n : ℕ) (first at new : ItemIndex) → Below n (first .0) → Be
 unfolding firstAfter
 first-after n first at new b c = pick-cases (λ (x : ItemIndex). Below n (x .0)) (eqb (first .0) (at .0)) new first (λ e. c) (λ e. b)
 
-module _ (n : ℕ) (I₀ : List ℕ) (m : Loose) (w : LooseIn n I₀ m) (at : ItemIndex) (b : Below n (at .0)) where
+module _ (n : ℕ) (I₀ : List ℕ) (m : Loose) (within : LooseIn n I₀ m) (at : ItemIndex) (b : Below n (at .0)) where
   here : Linked n (get items (m .items) (at .0))
-  here = linked-at (w .table) (at .0) b
+  here = linked-at (within .table) (at .0) b
 
+  -- the next item is taken off its free list and joined, and its row heads the freed rows
   absorbed : LooseIn n I₀ (absorbNext m at)
   unfolding absorbNext itemFreed withFreeItems
   absorbed = record {
-    table = within-join (within-unlist (w .table) _ (here .next)) (m .header) at (w .head) b;
+    table = within-join (within-unlist (within .table) _ (here .next)) (m .header) at (within .head) b;
     head = here .next;
-    first = first-after n (m .first) _ _ (w .first) (linked-at (w .table) _ (here .next) .next-free);
+    first = first-after n (m .first) _ _ (within .first) (linked-at (within .table) _ (here .next) .next-free);
   }
 
   next-in : LooseIn n I₀ (mergeNext m at)
   unfolding mergeNext
-  next-in = pick-cases (LooseIn n I₀) (isFreeItem (m .items) (get items (m .items) (at .0) .next)) _ _ (λ e. absorbed) (λ e. w)
+  next-in = pick-cases (LooseIn n I₀) (isFreeItem (m .items) (get items (m .items) (at .0) .next)) _ _ (λ e. absorbed) (λ e. within)
 
+  -- the item is joined to a free previous one, or goes to the front of the free list
   into-in : LooseIn n I₀ (mergeInto m at)
   unfolding mergeInto itemFreed withFreeItems
   into-in =
       pick-cases (LooseIn n I₀) (isFreeItem (m .items) (get items (m .items) (at .0) .prev)) _ _
-      (λ e. record { table = within-join (w .table) (m .header) _ (w .head) (here .prev); head = linked-at (w .table) _ (here .prev) .next; first = w .first })
-      (λ e. record { table = within-enlist (w .table) (m .first) at (w .first) b; head = w .head; first = b })
+      (λ e. record { table = within-join (within .table) (m .header) _ (within .head) (here .prev); head = linked-at (within .table) _ (here .prev) .next; first = within .first })
+      (λ e. record { table = within-enlist (within .table) (m .first) at (within .first) b; head = within .head; first = b })
 
 module _ (st : State) (on : ShelfIndex) (at : ItemIndex) where
+  -- marked free, then merged with the next item, then into the previous one
   pub released-items : (n : ℕ) → LinksWithin n (st .items) (st .items) → Below n (st .header .«free_items» .0) → Below n (shelfAt (st .shelves) on .«first_unallocated» .0) → Below n (at .0)
       → Past items n (st .items) (releaseItem st on at .items)
   unfolding releaseItem loosened loosen withAreaRemoved withOccupied

@@ -1,4 +1,5 @@
--- In a state in which an atlas stands whose free lists are whole, the used item rows link among themselves. Assumes nothing.
+-- The used item rows link among themselves, in a state in which an atlas stands whose free lists are whole: a used row serves on a shelf or is freed,
+-- and either way it says what its place in a chain of such rows is. Assumes nothing.
 use Rattle.numbers.specs.Library.{ℕ, _<_, _≡_, refl, sym, ap, _∙_, subst, inl, inr, ⊎-elim, List, [], _∷_, List·Memᴰ·head, List·Memᴰ·tail, List·Memᴰ·not-nil}
 use Rattle.numbers.specs.Library.{List·Memᴰ·cases-cons, List·Memᴰ·append-cases, Memᴰ·append-left, Memᴰ·append-right, arith}
 use Rattle.numbers.specs.Prelude.{noRow}
@@ -41,6 +42,7 @@ between k at n p (x ∷ xs) bp b c r m =
 -- ---- the rows of a shelf, and the freed ones
 
 module _ (I : List ℕ) (n : ℕ) where
+  -- a live item has no free links, and a free one has those of its place in the free list
   links-below : (s : Shelf) → Holds I s → AllListed s → FreeListed s → ((r : ℕ) → r ∈ itemRows (s .items) → r < n) → (r : ℕ) → r ∈ itemRows (s .items)
       → Below n (linksOf (get items I r) .prev) × Below n (linksOf (get items I r) .next)
   links-below s holds all listed b r m =
@@ -52,6 +54,7 @@ module _ (I : List ℕ) (n : ℕ) where
       rw (k .says) (k .before-below, k .after-below))
       (live-or-free (s .items) r m)
 
+  -- the other two links are those of its place among the items of the shelf
   shelf-linked : (s : Shelf) → Holds I s → AllListed s → FreeListed s → ((r : ℕ) → r ∈ itemRows (s .items) → r < n) → (r : ℕ) → r ∈ itemRows (s .items) → Linked n (get items I r)
   unfolding bodyOf linksOf
   shelf-linked s holds all listed b r m =

@@ -1,5 +1,5 @@
--- A shelf opened, and closed again after its items changed: the shelf's row and the header are written, and tables and atlas agree.
--- Assumes nothing.
+-- A shelf is opened where an atlas stands, and closed again once its items and its free list are others: the shelf's row and the header are written, and
+-- the atlas with that shelf stands. Assumes nothing.
 use Rattle.numbers.specs.Library.{ℕ, _≡_, refl, _≢_, inl, inr, ⊎-elim, true, List, [], _∷_, _++_, List·Memᴰ·head, Memᴰ·cast, Memᴰ·append-left}
 use Rattle.numbers.specs.Library.{Memᴰ·append-right, List·Memᴰ·append-cases, arith, ltb, lt-ltb}
 use Rattle.numbers.specs.Prelude.{noRow}
@@ -19,7 +19,7 @@ use Rattle.bridge.proofs.Items.PoolRows.{withPool}
 use Rattle.bridge.proofs.Stands.{Stands, used-items, used-shelves}
 use Rattle.bridge.proofs.Items.OpenShelf.{Open}
 
--- ---- the rows that serve, in two orders
+-- ---- the rows that serve, in two orders: those of one shelf before all others, and those of the shelves as they follow one another
 
 -- the same rows in another order
 pub shared-same : {used : ℕ} {l f : List ℕ} (l′ : List ℕ) → Distinct l′ → ((r : ℕ) → r ∈ l′ → r ∈ l) → ((r : ℕ) → r ∈ l → r ∈ l′) → Shared used l f → Shared used l′ f
@@ -52,11 +52,11 @@ module _ (bs : List Shelf) (s : Shelf) (ys : List Shelf) where
 
   pub chain-once : Distinct (itemRows (s .items) ++ (allItemRows bs ++ allItemRows ys)) → Distinct (allItemRows (backOnto bs (s ∷ ys)))
   chain-once d =
-      let r₁ : Distinct (allItemRows bs ++ allItemRows ys) = distinct-right (itemRows (s .items)) (allItemRows bs ++ allItemRows ys) d in
-      let a₁ : Apart (itemRows (s .items)) (allItemRows bs ++ allItemRows ys) = distinct-apart (itemRows (s .items)) (allItemRows bs ++ allItemRows ys) d in
-      apart-onto of-items bs (s ∷ ys) (distinct-left (allItemRows bs) (allItemRows ys) r₁)
-      (distinct-append (itemRows (s .items)) (allItemRows ys) (distinct-left (itemRows (s .items)) (allItemRows bs ++ allItemRows ys) d) (distinct-right (allItemRows bs) (allItemRows ys) r₁) (λ r m k. a₁ r m (Memᴰ·append-right (allItemRows bs) k)))
-      (λ r m k. ⊎-elim (λ q. a₁ r q (Memᴰ·append-left (allItemRows ys) m)) (λ q. distinct-apart (allItemRows bs) (allItemRows ys) r₁ r m q) (List·Memᴰ·append-cases (itemRows (s .items)) k))
+      let others-once : Distinct (allItemRows bs ++ allItemRows ys) = distinct-right (itemRows (s .items)) (allItemRows bs ++ allItemRows ys) d in
+      let own-apart : Apart (itemRows (s .items)) (allItemRows bs ++ allItemRows ys) = distinct-apart (itemRows (s .items)) (allItemRows bs ++ allItemRows ys) d in
+      apart-onto of-items bs (s ∷ ys) (distinct-left (allItemRows bs) (allItemRows ys) others-once)
+      (distinct-append (itemRows (s .items)) (allItemRows ys) (distinct-left (itemRows (s .items)) (allItemRows bs ++ allItemRows ys) d) (distinct-right (allItemRows bs) (allItemRows ys) others-once) (λ r m k. own-apart r m (Memᴰ·append-right (allItemRows bs) k)))
+      (λ r m k. ⊎-elim (λ q. own-apart r q (Memᴰ·append-left (allItemRows ys) m)) (λ q. distinct-apart (allItemRows bs) (allItemRows ys) others-once r m q) (List·Memᴰ·append-cases (itemRows (s .items)) k))
 
   pub once-chain : Distinct (allItemRows (backOnto bs (s ∷ ys))) → Distinct (itemRows (s .items) ++ (allItemRows bs ++ allItemRows ys))
   once-chain d =
@@ -109,40 +109,40 @@ module _ (st : State) (a : Atlas) (bs : List Shelf) (s : Shelf) (ys : List Shelf
   pub shelf-there : ltb (s .row) (rows shelves S) ≡ true
   shelf-there = lt-ltb (s .row) (rows shelves S) (omega (arith, stands .sound .shelf-rows .serving-used (s .row) s-in, used-shelves st a stands))
 
-  module _ (I′ : List ℕ) (is : List Item) (fl : List ℕ) (p : Pool Freed) (o : Open I I′ (s .row) is fl p others)
+  module _ (I′ : List ℕ) (is : List Item) (free-list : List ℕ) (p : Pool Freed) (opened : Open I I′ (s .row) is free-list p others)
       (first : firstRow (item (s .row) .row) is ≡ firstRow (item (s .row) .row) (s .items))
-      (f : ItemIndex) (e : ℕ) (f-is : f .0 ≡ firstOf fl) (e-is : e ≡ flag (isEmpty is)) where
-    close-lies : (h : Header) → h ≡ headerOf (reshelved a bs (holding s is fl) ys p)
-        → Stores h (change shelves S (s .row) (withFree f e)) I′ (reshelved a bs (holding s is fl) ys p)
+      (first-free : ItemIndex) (empty-flag : ℕ) (first-free-is : first-free .0 ≡ firstOf free-list) (empty-flag-is : empty-flag ≡ flag (isEmpty is)) where
+    close-lies : (h : Header) → h ≡ headerOf (reshelved a bs (holding s is free-list) ys p)
+        → Stores h (change shelves S (s .row) (withFree first-free empty-flag)) I′ (reshelved a bs (holding s is free-list) ys p)
     unfolding holding withFree withFirstFree withEmpty
     close-lies h eq = record {
       header = eq;
-      shelf-chain = chain-replace shelf (get shelves S) (get shelves (change shelves S (s .row) (withFree f e))) bs s (holding s is fl) ys refl
+      shelf-chain = chain-replace shelf (get shelves S) (get shelves (change shelves S (s .row) (withFree first-free empty-flag))) bs s (holding s is free-list) ys refl
           (rw are at (stands .sound .shelf-rows .serving-once)) (λ r m n. simp reads)
-          (λ c. simp (reads, shelf-there) (rw c (cc (first, f-is, e-is)))) (rw are at (stands .stored .shelf-chain));
-      shelf-items = each-join (Holds I′) bs (holding s is fl ∷ ys)
-          (each-holds I I′ bs (listings .0) (λ r m. o .same r (Memᴰ·append-left (allItemRows ys) m)) (held .0)) (
-            record { in-order = o .lie; free-order = o .list; live-unlinked = o .live },
-            each-holds I I′ ys (listings .1 .1) (λ r m. o .same r (Memᴰ·append-right (allItemRows bs) m)) (held .1 .1),
+          (λ c. simp (reads, shelf-there) (rw c (cc (first, first-free-is, empty-flag-is)))) (rw are at (stands .stored .shelf-chain));
+      shelf-items = each-join (Holds I′) bs (holding s is free-list ∷ ys)
+          (each-holds I I′ bs (listings .0) (λ r m. opened .same r (Memᴰ·append-left (allItemRows ys) m)) (held .0)) (
+            record { in-order = opened .lie; free-order = opened .list; live-unlinked = opened .live },
+            each-holds I I′ ys (listings .1 .1) (λ r m. opened .same r (Memᴰ·append-right (allItemRows bs) m)) (held .1 .1),
           );
-      freed-shelves = chain-frame freedShelf (get shelves S) (get shelves (change shelves S (s .row) (withFree f e))) noRow (a .rows .shelves .freed)
+      freed-shelves = chain-frame freedShelf (get shelves S) (get shelves (change shelves S (s .row) (withFree first-free empty-flag))) noRow (a .rows .shelves .freed)
           (λ r m. let n : r ≢ s .row = (λ q. stands .sound .shelf-rows .freed-exactly r .0 (rw self at m) .1 (Memᴰ·cast q s-in)) in simp reads) (stands .stored .freed-shelves);
-      freed-items = o .freed;
+      freed-items = opened .freed;
     }
 
-    close-sound : Sound (roomIn (change shelves S (s .row) (withFree f e)) I′) (reshelved a bs (holding s is fl) ys p)
+    close-sound : Sound (roomIn (change shelves S (s .row) (withFree first-free empty-flag)) I′) (reshelved a bs (holding s is free-list) ys p)
     unfolding roomIn holding
     close-sound = record {
-      in-room = record { shelves = simp rows-change (used-shelves st a stands); items = o .room };
-      free-listed = each-join FreeListed bs (holding s is fl ∷ ys) (listings .0) (record { once = rw self at (o .free-once); only = λ r m. o .only r (rw self m) }, listings .1 .1);
-      shelf-rows = rw (gather-onto (λ (q : Shelf). q .row ∷ []) bs (holding s is fl ∷ ys) (s ∷ ys) refl) (rw are at (stands .sound .shelf-rows));
-      item-rows = shared-same (allItemRows (backOnto bs (holding s is fl ∷ ys))) (chain-once bs (holding s is fl) ys (o .shared .serving-once))
-          (λ r m. from-chain bs (holding s is fl) ys r m) (λ r m. to-chain bs (holding s is fl) ys r m) (o .shared);
+      in-room = record { shelves = simp rows-change (used-shelves st a stands); items = opened .room };
+      free-listed = each-join FreeListed bs (holding s is free-list ∷ ys) (listings .0) (record { once = rw self at (opened .free-once); only = λ r m. opened .only r (rw self m) }, listings .1 .1);
+      shelf-rows = rw (gather-onto (λ (q : Shelf). q .row ∷ []) bs (holding s is free-list ∷ ys) (s ∷ ys) refl) (rw are at (stands .sound .shelf-rows));
+      item-rows = shared-same (allItemRows (backOnto bs (holding s is free-list ∷ ys))) (chain-once bs (holding s is free-list) ys (opened .shared .serving-once))
+          (λ r m. from-chain bs (holding s is free-list) ys r m) (λ r m. to-chain bs (holding s is free-list) ys r m) (opened .shared);
     }
 
     -- the first free item and the empty flag are written into the shelf's row
-    pub close-stands : (h : Header) → h ≡ headerOf (reshelved a bs (holding s is fl) ys p)
-        → Stands (state h (change shelves S (s .row) (withFree f e)) I′) (reshelved a bs (holding s is fl) ys p)
+    pub close-stands : (h : Header) → h ≡ headerOf (reshelved a bs (holding s is free-list) ys p)
+        → Stands (state h (change shelves S (s .row) (withFree first-free empty-flag)) I′) (reshelved a bs (holding s is free-list) ys p)
     close-stands h eq = record { stored = close-lies h eq; sound = close-sound }
 
   -- the header that goes with it: other item rows, and another sum

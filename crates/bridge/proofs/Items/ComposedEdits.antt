@@ -1,4 +1,5 @@
--- Grants and releases of an opened shelf, made of the changes of an item table. Assumes nothing.
+-- What a grant and a release do to an opened shelf, composed of the edits of the item table: an item granted whole, its left part granted, an item made
+-- free, put on the free list, and joined with a neighbour. Assumes nothing.
 use Rattle.numbers.specs.Library.{ℕ, _<_, _≤_, _+_, _≡_, refl, sym, ap, inr, ⊎-elim, true, false, List, [], _∷_, _++_, List·Memᴰ·head, List·Memᴰ·cases-cons}
 use Rattle.numbers.specs.Library.{Memᴰ·cast, Memᴰ·append-right}
 use Rattle.numbers.specs.declared.index.ItemIndex.{ItemIndex}

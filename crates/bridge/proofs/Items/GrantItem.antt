@@ -1,4 +1,5 @@
--- A grant of an item, whole or in part: the tables that the steps leave are those in which the granted atlas stands. Assumes nothing.
+-- An item of a shelf granted, whole or its left part: the step's item table, its shelf's row and its header are those in which the granted atlas
+-- stands. Assumes nothing.
 use Rattle.numbers.specs.Library.{ℕ, _<_, _≤_, _+_, _*_, _≡_, refl, ap, _∙_, inr, Bool, true, false, List, [], _∷_, _++_, List·Memᴰ·head, mul-le-mul-right}
 use Rattle.numbers.specs.Library.{arith, eqb}
 use Rattle.numbers.specs.Prelude.{pick, pick-ap, mostArea}
@@ -39,11 +40,11 @@ pub area-is : {I₀ I : List ℕ} {on : ℕ} {fl : List ℕ} {p : Pool Freed} {o
 unfolding areaAt
 area-is {I = I} ib i ia o S d e = rw (seen-width (get items I (i .row)) (body-is ib i ia o), seen-shelf (get items I (i .row)) (body-is ib i ia o), e)
 
-module _ (st : State) (a : Atlas) (f : Focus Shelf) (w : Focus Item)
-    (shelves-are : a .shelves ≡ backOnto (f .before) (f .this ∷ f .after))
-    (items-are : f .this .items ≡ backOnto (w .before) (w .this ∷ w .after))
-    (fb fa : List ℕ) (free-are : f .this .free ≡ backOnto fb (w .this .row ∷ fa))
-    (stands : Stands st a) (narrow : NarrowShelf (f .this)) (total : occupied (a .shelves) ≤ mostArea) where
+module _ (st : State) (a : Atlas) (shelf-at : Focus Shelf) (item-at : Focus Item)
+    (shelves-are : a .shelves ≡ backOnto (shelf-at .before) (shelf-at .this ∷ shelf-at .after))
+    (items-are : shelf-at .this .items ≡ backOnto (item-at .before) (item-at .this ∷ item-at .after))
+    (fb fa : List ℕ) (free-are : shelf-at .this .free ≡ backOnto fb (item-at .this .row ∷ fa))
+    (stands : Stands st a) (narrow : NarrowShelf (shelf-at .this)) (total : occupied (a .shelves) ≤ mostArea) where
   abbrev h : Header
   h = st .header
 
@@ -54,27 +55,28 @@ module _ (st : State) (a : Atlas) (f : Focus Shelf) (w : Focus Item)
   I = st .items
 
   abbrev s : Shelf
-  s = f .this
+  s = shelf-at .this
 
   abbrev i : Item
-  i = w .this
+  i = item-at .this
 
   abbrev others : List ℕ
-  others = allItemRows (f .before) ++ allItemRows (f .after)
+  others = allItemRows (shelf-at .before) ++ allItemRows (shelf-at .after)
 
-  o : Open I I (s .row) (backOnto (w .before) (i ∷ w .after)) (backOnto fb (i .row ∷ fa)) (a .rows .items) others
-  o = rw (items-are, free-are) at (open-shelf st a (f .before) s (f .after) shelves-are stands)
+  opened : Open I I (s .row) (backOnto (item-at .before) (i ∷ item-at .after)) (backOnto fb (i .row ∷ fa)) (a .rows .items) others
+  opened = rw (items-are, free-are) at (open-shelf st a (shelf-at .before) s (shelf-at .after) shelves-are stands)
 
+  -- the item is on the free list, and no live one is
   was-free : i .live ≡ false
   was-free = go (i .live) refl where
     go : (b : Bool) → i .live ≡ b → i .live ≡ false
     go false e = e
-    go true e = absurd (live-free (backOnto (w .before) (i ∷ w .after)) (once o) (i .row)
-        (in-onto liveOf (i .row) (w .before) (i ∷ w .after) (inr (rw e (List·Memᴰ·head refl))))
-        (o .only (i .row) (in-onto (λ r. r ∷ []) (i .row) fb (i .row ∷ fa) (inr (List·Memᴰ·head refl)))))
+    go true e = absurd (live-free (backOnto (item-at .before) (i ∷ item-at .after)) (once opened) (i .row)
+        (in-onto liveOf (i .row) (item-at .before) (i ∷ item-at .after) (inr (rw e (List·Memᴰ·head refl))))
+        (opened .only (i .row) (in-onto (λ r. r ∷ []) (i .row) fb (i .row ∷ fa) (inr (List·Memᴰ·head refl)))))
 
   listed-once : i .row ∈ fb → ⊥
-  listed-once m = onto-apart (λ r. r ∷ []) fb (i .row ∷ fa) (o .free-once) .2 (i .row) (rw self m) (List·Memᴰ·head refl)
+  listed-once m = onto-apart (λ r. r ∷ []) fb (i .row ∷ fa) (opened .free-once) .2 (i .row) (rw self m) (List·Memᴰ·head refl)
 
   cut : (new : List ℕ) → replaceRow (i .row) new (s .free) ≡ backOnto fb (new ++ fa)
   cut new = rw free-are (replace-at (i .row) new fb fa listed-once)
@@ -84,70 +86,70 @@ module _ (st : State) (a : Atlas) (f : Focus Shelf) (w : Focus Item)
   unfolding firstAfter
   named new fa′ e =
       let q : get shelves S (s .row) .«first_unallocated» ≡ atRow (firstOf (backOnto fb (i .row ∷ fa))) =
-      ap (λ (v : ShelfRow). v .«first_unallocated») (shelf-says st a stands (f .before) s (f .after) shelves-are) ∙ ap (λ (l : List ℕ). atRow (firstOf l)) free-are in
+      ap (λ (v : ShelfRow). v .«first_unallocated») (shelf-says st a stands (shelf-at .before) s (shelf-at .after) shelves-are) ∙ ap (λ (l : List ℕ). atRow (firstOf l)) free-are in
       rw q (pick-ap (λ (k : ItemIndex). k .0) (eqb (firstOf (backOnto fb (i .row ∷ fa))) (i .row)) new (atRow (firstOf (backOnto fb (i .row ∷ fa)))) ∙ first-listed fb (i .row) (new .0) fa fa′ listed-once e)
 
   -- so much more is occupied
-  more : (width : ℕ) (us : List Item) (s′ : Shelf) → s′ .depth ≡ s .depth → s′ .items ≡ backOnto (w .before) (grantedItem i width ∷ us) → liveArea (s .depth) us ≡ liveArea (s .depth) (w .after)
-      → h .occupied + width * s .depth ≡ occupied (backOnto (f .before) (s′ ∷ f .after))
+  more : (width : ℕ) (after-it : List Item) (s′ : Shelf) → s′ .depth ≡ s .depth → s′ .items ≡ backOnto (item-at .before) (grantedItem i width ∷ after-it) → liveArea (s .depth) after-it ≡ liveArea (s .depth) (item-at .after)
+      → h .occupied + width * s .depth ≡ occupied (backOnto (shelf-at .before) (s′ ∷ shelf-at .after))
   unfolding headerOf occupied liveArea grantedItem
-  more width us s′ ed ei eu =
-      let now : liveArea (s′ .depth) (s′ .items) ≡ liveArea (s .depth) (backOnto (w .before) (grantedItem i width ∷ us)) = rw (ed, ei) in
+  more width after-it s′ same-depth items-then area-kept =
+      let now : liveArea (s′ .depth) (s′ .items) ≡ liveArea (s .depth) (backOnto (item-at .before) (grantedItem i width ∷ after-it)) = rw (same-depth, items-then) in
       omega (
         arith,
         ap (λ (q : Header). q .occupied) (stands .stored .header) ∙ ap occupied shelves-are,
-        occupied-onto (f .before) (s ∷ f .after),
-        occupied-onto (f .before) (s′ ∷ f .after),
+        occupied-onto (shelf-at .before) (s ∷ shelf-at .after),
+        occupied-onto (shelf-at .before) (s′ ∷ shelf-at .after),
         ap (liveArea (s .depth)) items-are,
-        area-onto (s .depth) (w .before) (i ∷ w .after),
-        area-onto (s .depth) (w .before) (grantedItem i width ∷ us),
+        area-onto (s .depth) (item-at .before) (i ∷ item-at .after),
+        area-onto (s .depth) (item-at .before) (grantedItem i width ∷ after-it),
         ap (λ (b : Bool). pick b (i .width * s .depth) 0) was-free,
         now,
       )
 
-  module _ (width : ℕ) (us : List Item) where
-    first-is : firstRow (item (s .row) .row) (backOnto (w .before) (grantedItem i width ∷ us)) ≡ firstRow (item (s .row) .row) (s .items)
+  module _ (width : ℕ) (after-it : List Item) where
+    first-is : firstRow (item (s .row) .row) (backOnto (item-at .before) (grantedItem i width ∷ after-it)) ≡ firstRow (item (s .row) .row) (s .items)
     unfolding grantedItem
-    first-is = rw items-are (first-onto (item (s .row)) (w .before) (grantedItem i width) i us (w .after) refl)
+    first-is = rw items-are (first-onto (item (s .row)) (item-at .before) (grantedItem i width) i after-it (item-at .after) refl)
 
-    in-use : 0 ≡ flag (isEmpty (backOnto (w .before) (grantedItem i width ∷ us)))
+    in-use : 0 ≡ flag (isEmpty (backOnto (item-at .before) (grantedItem i width ∷ after-it)))
     unfolding grantedItem
-    in-use = rw (not-empty (w .before) (grantedItem i width) us refl)
+    in-use = rw (not-empty (item-at .before) (grantedItem i width) after-it refl)
 
-    total-is : (fl : List ℕ) → liveArea (s .depth) us ≡ liveArea (s .depth) (w .after)
-        → h .occupied + width * s .depth ≡ occupied (backOnto (f .before) (holding s (backOnto (w .before) (grantedItem i width ∷ us)) fl ∷ f .after))
+    total-is : (fl : List ℕ) → liveArea (s .depth) after-it ≡ liveArea (s .depth) (item-at .after)
+        → h .occupied + width * s .depth ≡ occupied (backOnto (shelf-at .before) (holding s (backOnto (item-at .before) (grantedItem i width ∷ after-it)) fl ∷ shelf-at .after))
     unfolding holding
-    total-is fl eu = more width us (holding s (backOnto (w .before) (grantedItem i width ∷ us)) fl) refl refl eu
+    total-is fl area-kept = more width after-it (holding s (backOnto (item-at .before) (grantedItem i width ∷ after-it)) fl) refl refl area-kept
 
     -- what the code adds, in the tables that it has left; the sum does not wrap
-    added : width ≤ i .width → {fl : List ℕ} {p : Pool Freed} (I′ : List ℕ) (first : ItemIndex) → Open I I′ (s .row) (backOnto (w .before) (grantedItem i width ∷ us)) fl p others
+    added : width ≤ i .width → {fl : List ℕ} {p : Pool Freed} (I′ : List ℕ) (first : ItemIndex) → Open I I′ (s .row) (backOnto (item-at .before) (grantedItem i width ∷ after-it)) fl p others
         → plus32 (h .occupied) (areaAt (change shelves S (s .row) (withFree first 0)) I′ (atRow (i .row))) ≡ h .occupied + width * s .depth
     unfolding headerOf grantedItem withFree withFirstFree withEmpty
-    added fits I′ first o′ =
-        let says : get shelves S (s .row) .height ≡ s .depth = ap (λ (v : ShelfRow). v .height) (shelf-says st a stands (f .before) s (f .after) shelves-are) in
+    added fits I′ first opened-then =
+        let says : get shelves S (s .row) .height ≡ s .depth = ap (λ (v : ShelfRow). v .height) (shelf-says st a stands (shelf-at .before) s (shelf-at .after) shelves-are) in
         let deep : get shelves (change shelves S (s .row) (withFree first 0)) (s .row) .height ≡ s .depth =
-        simp (reads, shelf-there st a (f .before) s (f .after) shelves-are stands) says in
+        simp (reads, shelf-there st a (shelf-at .before) s (shelf-at .after) shelves-are stands) says in
         let small : width * s .depth ≤ mostArea =
-        omega (arith, mul-le-mul-right (s .depth) fits, area-within (s .depth) (w .before) i (w .after), ap (λ (l : List Item). widths l * s .depth) items-are, narrow .area) in
+        omega (arith, mul-le-mul-right (s .depth) fits, area-within (s .depth) (item-at .before) i (item-at .after), ap (λ (l : List Item). widths l * s .depth) items-are, narrow .area) in
         let before : h .occupied ≡ occupied (a .shelves) = ap (λ (q : Header). q .occupied) (stands .stored .header) in
         let room : h .occupied + width * s .depth < 4294967296 = omega (arith, total) in
-        rw (area-is (w .before) (grantedItem i width) us o′ (change shelves S (s .row) (withFree first 0)) (s .depth) deep) (plus32-is (h .occupied) (width * s .depth) room)
+        rw (area-is (item-at .before) (grantedItem i width) after-it opened-then (change shelves S (s .row) (withFree first 0)) (s .depth) deep) (plus32-is (h .occupied) (width * s .depth) room)
 
   -- the shelf closed: what is left to know of the state before the sum is written
-  grant-stands : (width : ℕ) (us : List Item) (fl : List ℕ) (p : Pool Freed) (st₁ : State) (first : ItemIndex) → width ≤ i .width
-      → Open I (st₁ .items) (s .row) (backOnto (w .before) (grantedItem i width ∷ us)) fl p others
-      → liveArea (s .depth) us ≡ liveArea (s .depth) (w .after)
+  grant-stands : (width : ℕ) (after-it : List Item) (fl : List ℕ) (p : Pool Freed) (taken-state : State) (first : ItemIndex) → width ≤ i .width
+      → Open I (taken-state .items) (s .row) (backOnto (item-at .before) (grantedItem i width ∷ after-it)) fl p others
+      → liveArea (s .depth) after-it ≡ liveArea (s .depth) (item-at .after)
       → first .0 ≡ firstOf fl
-      → st₁ .shelves ≡ change shelves S (s .row) (withFree first 0)
-      → st₁ .header ≡ withPool p h
-      → Stands (occupy st₁ (atRow (i .row))) (reshelved a (f .before) (holding s (backOnto (w .before) (grantedItem i width ∷ us)) fl) (f .after) p)
+      → taken-state .shelves ≡ change shelves S (s .row) (withFree first 0)
+      → taken-state .header ≡ withPool p h
+      → Stands (occupy taken-state (atRow (i .row))) (reshelved a (shelf-at .before) (holding s (backOnto (item-at .before) (grantedItem i width ∷ after-it)) fl) (shelf-at .after) p)
   unfolding occupiedAfter areaAt withUsedItems withFreeItems
-  grant-stands width us fl p st₁ first fits o′ eu fe es eh =
-      let is : List Item = backOnto (w .before) (grantedItem i width ∷ us) in
-      rw (es, eh)
-      (close-stands st a (f .before) s (f .after) shelves-are stands (st₁ .items) is fl p o′ (first-is width us) first 0 fe (in-use width us) _
-      (ap (λ (n : ℕ). withOccupied n (withPool p h)) (added width us fits (st₁ .items) first o′)
-      ∙ close-header st a (f .before) s (f .after) shelves-are stands (holding s is fl) p (h .occupied + width * s .depth) (total-is width us fl eu)))
+  grant-stands width after-it fl p taken-state first fits opened-then area-kept first-is-listed shelves-then header-then =
+      let is : List Item = backOnto (item-at .before) (grantedItem i width ∷ after-it) in
+      rw (shelves-then, header-then)
+      (close-stands st a (shelf-at .before) s (shelf-at .after) shelves-are stands (taken-state .items) is fl p opened-then (first-is width after-it) first 0 first-is-listed (in-use width after-it) _
+      (ap (λ (n : ℕ). withOccupied n (withPool p h)) (added width after-it fits (taken-state .items) first opened-then)
+      ∙ close-header st a (shelf-at .before) s (shelf-at .after) shelves-are stands (holding s is fl) p (h .occupied + width * s .depth) (total-is width after-it fl area-kept)))
 
   -- ---- the whole item
 
@@ -157,13 +159,13 @@ module _ (st : State) (a : Atlas) (f : Focus Shelf) (w : Focus Item)
   same-header = cc (stands .stored .header)
 
   pub whole-stands : Stands (occupy (takeWhole st (onRow (s .row)) (atRow (i .row))) (atRow (i .row)))
-      (record { limits = a .limits; shelves = backOnto (f .before) (grantWhole s w ∷ f .after); rows = a .rows })
+      (record { limits = a .limits; shelves = backOnto (shelf-at .before) (grantWhole s item-at ∷ shelf-at .after); rows = a .rows })
   unfolding grantWhole takeWhole useShelf takeWholeItems
   whole-stands =
-      grant-stands (i .width) (w .after) (replaceRow (i .row) [] (s .free)) (a .rows .items) (takeWhole st (onRow (s .row)) (atRow (i .row)))
+      grant-stands (i .width) (item-at .after) (replaceRow (i .row) [] (s .free)) (a .rows .items) (takeWhole st (onRow (s .row)) (atRow (i .row)))
       (firstAfter (get shelves S (s .row) .«first_unallocated») (atRow (i .row)) (get items I (i .row) .«next_unallocated»)) (omega arith)
-      (rw (cut []) (whole-open (a .rows) (w .before) i (w .after) fb fa o)) refl
-      (rw (cut []) (named (get items I (i .row) .«next_unallocated») fa (ap (λ (k : ItemIndex). k .0) (seen-nextFree (get items I (i .row)) (links-are fb (i .row) fa o))))) refl same-header
+      (rw (cut []) (whole-open (a .rows) (item-at .before) i (item-at .after) fb fa opened)) refl
+      (rw (cut []) (named (get items I (i .row) .«next_unallocated») fa (ap (λ (k : ItemIndex). k .0) (seen-nextFree (get items I (i .row)) (links-are fb (i .row) fa opened))))) refl same-header
 
   -- ---- the left part of it
 
@@ -181,22 +183,22 @@ module _ (st : State) (a : Atlas) (f : Focus Shelf) (w : Focus Item)
     left′ = left
 
     span : i .x + i .width ≤ 65535
-    span = each-split (λ (j : Item). j .x + j .width ≤ 65535) (w .before) (i ∷ w .after) (rw items-are at (narrow .spans)) .1 .0
+    span = each-split (λ (j : Item). j .x + j .width ≤ 65535) (item-at .before) (i ∷ item-at .after) (rw items-are at (narrow .spans)) .1 .0
 
     new-is : newItem h .0 ≡ newItemRow (a .rows)
     unfolding newItemRow
     new-is = ap (λ (k : ItemIndex). k .0) (item-new I h (allItemRows (a .shelves)) (a .rows .items) head used (used-items st a stands) left′ (stands .sound .item-rows) (stands .stored .freed-items))
 
-    rest-free : liveArea (s .depth) (restOf (a .rows) i width ∷ w .after) ≡ liveArea (s .depth) (w .after)
+    rest-free : liveArea (s .depth) (restOf (a .rows) i width ∷ item-at .after) ≡ liveArea (s .depth) (item-at .after)
     unfolding liveArea restOf
     rest-free = omega arith
 
     pub part-stands : Stands (occupy (takePart st (onRow (s .row)) (atRow (i .row)) width) (atRow (i .row)))
-        (record { limits = a .limits; shelves = backOnto (f .before) (grantPart (a .rows) s w width ∷ f .after); rows = itemRowTaken (a .rows) })
+        (record { limits = a .limits; shelves = backOnto (shelf-at .before) (grantPart (a .rows) s item-at width ∷ shelf-at .after); rows = itemRowTaken (a .rows) })
     unfolding grantPart itemRowTaken takePart useShelf takePartItems
     part-stands =
-        grant-stands width (restOf (a .rows) i width ∷ w .after) (replaceRow (i .row) (newItemRow (a .rows) ∷ []) (s .free)) (taken (a .rows .items)) (takePart st (onRow (s .row)) (atRow (i .row)) width)
+        grant-stands width (restOf (a .rows) i width ∷ item-at .after) (replaceRow (i .row) (newItemRow (a .rows) ∷ []) (s .free)) (taken (a .rows .items)) (takePart st (onRow (s .row)) (atRow (i .row)) width)
         (firstAfter (get shelves S (s .row) .«first_unallocated») (atRow (i .row)) (newItem h)) within
-        (rw (cut (newItemRow (a .rows) ∷ [])) (part-open (a .rows) (w .before) i (w .after) fb fa o h head used left′ width within span)) rest-free
+        (rw (cut (newItemRow (a .rows) ∷ [])) (part-open (a .rows) (item-at .before) i (item-at .after) fb fa opened h head used left′ width within span)) rest-free
         (rw (cut (newItemRow (a .rows) ∷ [])) (named (newItem h) (newItemRow (a .rows) ∷ fa) new-is)) refl
         (item-header I h (allItemRows (a .shelves)) (a .rows .items) head used (used-items st a stands) left′ (stands .sound .item-rows) (stands .stored .freed-items))

@@ -1,5 +1,5 @@
--- One shelf opened: its items and free list lie in the item table, the freed rows too, and every other row is as it was in a table I₀.
--- Each change of an item table leads from one such state to another; here those of the free list. Assumes nothing.
+-- One shelf opened: its items and free list lie in the item table, the freed rows too, and every other row is as it was in a table I₀. Each edit of an
+-- item table leads from one such state to another; here are the edits of the free list, `unlist`, `relist` and `enlist`. Assumes nothing.
 use Rattle.numbers.specs.Library.{ℕ, _<_, _≤_, _≡_, refl, sym, ap, _∙_, _≢_, _⊎_, inl, inr, ⊎-elim, true, List, [], _∷_, _++_, List·Memᴰ·tail}
 use Rattle.numbers.specs.Library.{List·Memᴰ·cases-cons, Memᴰ·cast, Memᴰ·append-left, Memᴰ·append-right, arith, ltb, lt-ltb}
 use Rattle.numbers.specs.Prelude.{noRow}
@@ -17,6 +17,8 @@ use Rattle.rules.proofs.LiveRows.{live-row, free-row, live-free}
 abbrev pub listed : List ℕ → List ℕ
 listed = gather (λ r. r ∷ [])
 
+-- Shelf `on` opened: items `is` and free list `fl` lie in table I, each row once, with the pool p of freed rows; `others` are the rows of all
+-- other shelves.
 pub record Open (I₀ I : List ℕ) (on : ℕ) (is : List Item) (fl : List ℕ) (p : Pool Freed) (others : List ℕ) : Type 0 where
   pub lie : Chain (item on) (λ r. bodyOf (get items I r)) noRow is
   pub list : Chain free (λ r. linksOf (get items I r)) noRow fl
@@ -105,7 +107,7 @@ module _ {I₀ I : List ℕ} {on : ℕ} {is : List Item} {q : Pool Freed} {other
   listed-there : (r : ℕ) → r ∈ listed (backOnto fb (x ∷ fa)) → ltb r (rows items I) ≡ true
   listed-there r m = there o r (listed-row o r m)
 
-  -- x taken out
+  -- row x taken out: the rows before and after it, p and n, are linked with each other
   abbrev I₁ : List ℕ
   I₁ = change items (change items I p (withNextFree (atRow n))) n (withPrevFree (atRow p))
 
@@ -128,7 +130,7 @@ module _ {I₀ I : List ℕ} {on : ℕ} {is : List Item} {q : Pool Freed} {other
       (apart-onto one fb fa db (dy .1) (λ r m k. apart r m (List·Memᴰ·tail k)))
       (λ r m. o .only r (in-onto one r fb (x ∷ fa) (⊎-elim (λ k. inl k) (λ k. inr (List·Memᴰ·tail k)) (onto-in one r fb fa m)))))
 
-  -- y in the place of x
+  -- row y in the place of row x
   module _ (y : ℕ) (y-free : y ∈ freeRows is) (y-out : y ∈ listed (backOnto fb (x ∷ fa)) → ⊥) where
     abbrev I₂ : List ℕ
     I₂ = change items (change items (change items I y (withLinks (atRow p) (atRow n))) p (withNextFree (atRow y))) n (withPrevFree (atRow y))
@@ -160,7 +162,7 @@ module _ {I₀ I : List ℕ} {on : ℕ} {is : List Item} {q : Pool Freed} {other
         (λ r m k. ⊎-elim (λ e. y-out (Memᴰ·cast (sym e) (in-b r m))) (λ w. apart r m (List·Memᴰ·tail w)) (List·Memᴰ·cases-cons k)))
         (λ r m. ⊎-elim (λ k. o .only r (in-b r k)) (λ k. ⊎-elim (λ e. Memᴰ·cast e y-free) (λ w. o .only r (in-a r w)) (List·Memᴰ·cases-cons k)) (onto-in one r fb (y ∷ fa) m)))
 
--- y put in front
+-- row y put in front of the free list
 module _ {I₀ I : List ℕ} {on : ℕ} {is : List Item} {fl : List ℕ} {p : Pool Freed} {others : List ℕ}
     (o : Open I₀ I on is fl p others) (y : ℕ) (y-free : y ∈ freeRows is) (y-out : y ∈ listed fl → ⊥) where
   pub enlist-open : Open I₀ (enlist I (atRow (firstOf fl)) (atRow y)) on is (y ∷ fl) p others

@@ -13,7 +13,7 @@ use Rattle.pool.specs.PoolLaws.{one-more, new-freed, new-unused}
 use Rattle.rows.specs.declared.header.Header.{Header}
 use Rattle.rules.specs.Prelude.{Freed, Pool, newRow, newGeneration, taken, rowsLeft, freedItem, freedShelf, Shared}
 
--- ---- either pool
+-- ---- either pool; each proof has two cases, a freed row at hand or none
 
 module _ {E : Type 0} (row : E → ℕ) where
   abbrev pub rowsIn : List E → List ℕ
@@ -22,6 +22,7 @@ module _ {E : Type 0} (row : E → ℕ) where
   abbrev pool : ℕ → List E → Pool E
   pool u fs = record { used = u; freed = fs }
 
+  -- the row that is taken next serves nowhere, is there, and is none of the rows still freed
   pub record Fresh (room : ℕ) (serving : List ℕ) (p : Pool E) : Type 0 where
     pub out : newRow row p ∈ serving → ⊥
     pub there : newRow row p < room

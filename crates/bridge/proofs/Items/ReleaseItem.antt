@@ -1,5 +1,5 @@
--- A live item released, as far as its shelf goes: the tables that the steps leave are those in which the loosened atlas stands.
--- Assumes nothing.
+-- The first half of a release: a live item is made free and merged with its free neighbours, and its shelf's row and the header follow. The atlas that
+-- stands then is the rules' atlas at that point. Assumes nothing.
 use Rattle.numbers.specs.Library.{ℕ, _<_, _≤_, _+_, _-_, _*_, _≡_, refl, sym, ap, _∙_, subst, inr, Bool, true, false, not, _&&_, List, [], _∷_, _++_}
 use Rattle.numbers.specs.Library.{List·Memᴰ·head, arith, eqb, ne-eqb}
 use Rattle.numbers.specs.Prelude.{pick, noRow, mostArea}
@@ -66,11 +66,11 @@ release-step : (st : State) (on row : ℕ) → releaseItem st (onRow on) (atRow 
 unfolding releaseItem loosened oneFree withFree loosen vacate areaAt intoMerged nextMerged isFreeItem absorbNext unlist joinNext enlist firstAfter markFree
 release-step st on row = refl
 
-module _ (st : State) (a : Atlas) (w : Found)
-    (shelves-are : a .shelves ≡ backOnto (w .shelf .before) (w .shelf .this ∷ w .shelf .after))
-    (items-are : w .shelf .this .items ≡ backOnto (w .item .before) (w .item .this ∷ w .item .after))
-    (was-live : w .item .this .live ≡ true) (all : AllListed (w .shelf .this))
-    (stands : Stands st a) (narrow : NarrowShelf (w .shelf .this)) (total : occupied (a .shelves) ≤ mostArea) where
+module _ (st : State) (a : Atlas) (spot : Found)
+    (shelves-are : a .shelves ≡ backOnto (spot .shelf .before) (spot .shelf .this ∷ spot .shelf .after))
+    (items-are : spot .shelf .this .items ≡ backOnto (spot .item .before) (spot .item .this ∷ spot .item .after))
+    (was-live : spot .item .this .live ≡ true) (all : AllListed (spot .shelf .this))
+    (stands : Stands st a) (narrow : NarrowShelf (spot .shelf .this)) (total : occupied (a .shelves) ≤ mostArea) where
   abbrev h : Header
   h = st .header
 
@@ -81,79 +81,83 @@ module _ (st : State) (a : Atlas) (w : Found)
   I = st .items
 
   abbrev bs : List Shelf
-  bs = w .shelf .before
+  bs = spot .shelf .before
 
   abbrev s : Shelf
-  s = w .shelf .this
+  s = spot .shelf .this
 
   abbrev ys : List Shelf
-  ys = w .shelf .after
+  ys = spot .shelf .after
 
   abbrev i : Item
-  i = w .item .this
+  i = spot .item .this
 
   abbrev others : List ℕ
   others = allItemRows bs ++ allItemRows ys
 
-  -- the way through the rules, and the way through the steps
-  abbrev m₁ : Loose
-  m₁ = mergeNext (record { items = w .item; free = s .free; rows = a .rows })
+  -- The way through the rules (`with-next`, `loose`) and the way through the steps (`at-first`, `next-done`, `loosened-now`): first a free next item is
+  -- merged in, then the item is merged into a free previous one.
+  abbrev with-next : Loose
+  with-next = mergeNext (record { items = spot .item; free = s .free; rows = a .rows })
 
-  abbrev pub m₂ : Loose
-  m₂ = mergeInto m₁
+  abbrev pub loose : Loose
+  loose = mergeInto with-next
 
-  abbrev h₀ : Header
-  h₀ = withOccupied (h .occupied - i .width * s .depth) h
+  abbrev header-vacated : Header
+  header-vacated = withOccupied (h .occupied - i .width * s .depth) h
 
-  abbrev c₀ : Loosened
-  c₀ = record { items = I; header = h₀; first = get shelves S (s .row) .«first_unallocated» }
+  abbrev at-first : Loosened
+  at-first = record { items = I; header = header-vacated; first = get shelves S (s .row) .«first_unallocated» }
 
-  abbrev c₁ : Loosened
-  c₁ = nextMerged (marked c₀ (i .row)) (atRow (i .row))
+  abbrev next-done : Loosened
+  next-done = nextMerged (marked at-first (i .row)) (atRow (i .row))
 
-  abbrev c₂ : Loosened
-  c₂ = intoMerged c₁ (atRow (i .row))
+  abbrev loosened-now : Loosened
+  loosened-now = intoMerged next-done (atRow (i .row))
 
-  o : Open I I (s .row) (backOnto (w .item .before) (i ∷ w .item .after)) (s .free) (a .rows .items) others
-  o = rw items-are at (open-shelf st a bs s ys shelves-are stands)
+  opened : Open I I (s .row) (backOnto (spot .item .before) (i ∷ spot .item .after)) (s .free) (a .rows .items) others
+  opened = rw items-are at (open-shelf st a bs s ys shelves-are stands)
 
   says : get shelves S (s .row) ≡ shelf .says (firstRow (shelf .row) bs) s (firstRow (shelf .row) ys)
   says = shelf-says st a stands bs s ys shelves-are
 
-  between : Between (i .row) m₁
+  -- between the two merges the item is free, in its row, and on no list
+  between : Between (i .row) with-next
   between =
-      next-between (w .item .before) i (w .item .after) (s .free) (a .rows)
-      (λ m. live-free (backOnto (w .item .before) (i ∷ w .item .after)) (once o) (i .row)
-      (in-onto liveOf (i .row) (w .item .before) (i ∷ w .item .after) (inr (rw was-live (List·Memᴰ·head refl)))) (o .only (i .row) m))
+      next-between (spot .item .before) i (spot .item .after) (s .free) (a .rows)
+      (λ m. live-free (backOnto (spot .item .before) (i ∷ spot .item .after)) (once opened) (i .row)
+      (in-onto liveOf (i .row) (spot .item .before) (i ∷ spot .item .after) (inr (rw was-live (List·Memᴰ·head refl)))) (opened .only (i .row) m))
 
+  -- the item's area is part of the live area
   sum : (d : ℕ) → liveArea d (s .items) ≡ liveArea d (s .items) - i .width * d + i .width * d
   unfolding liveArea
-  sum d = omega (arith, ap (liveArea d) items-are, area-onto d (w .item .before) (i ∷ w .item .after), ap (λ (b : Bool). pick b (i .width * d) 0) was-live)
+  sum d = omega (arith, ap (liveArea d) items-are, area-onto d (spot .item .before) (i ∷ spot .item .after), ap (λ (b : Bool). pick b (i .width * d) 0) was-live)
 
-  steady₁ : Steady (firstRow (item 0 .row) (s .items)) (widths (s .items)) (λ d. liveArea d (s .items) - i .width * d) (a .rows .shelves) m₁
-  steady₁ =
+  steady-next : Steady (firstRow (item 0 .row) (s .items)) (widths (s .items)) (λ d. liveArea d (s .items) - i .width * d) (a .rows .shelves) with-next
+  steady-next =
       next-steady (firstRow (item 0 .row) (s .items)) (widths (s .items)) (a .rows .shelves) (λ d. liveArea d (s .items)) (λ d. liveArea d (s .items) - i .width * d)
-      (w .item .before) i (w .item .after) (s .free) (a .rows) was-live sum
+      (spot .item .before) i (spot .item .after) (s .free) (a .rows) was-live sum
       (record { first-item = rw items-are; live-area = λ d. rw items-are; as-wide = rw items-are; same-shelves = refl })
 
-  steady : Steady (firstRow (item 0 .row) (s .items)) (widths (s .items)) (λ d. liveArea d (s .items) - i .width * d) (a .rows .shelves) m₂
+  steady : Steady (firstRow (item 0 .row) (s .items)) (widths (s .items)) (λ d. liveArea d (s .items) - i .width * d) (a .rows .shelves) loose
   steady =
       into-steady (firstRow (item 0 .row) (s .items)) (widths (s .items)) (a .rows .shelves) (λ d. liveArea d (s .items) - i .width * d)
-      (m₁ .items .before) (m₁ .items .this) (m₁ .items .after) (m₁ .free) (m₁ .rows) (between .is-free) steady₁
+      (with-next .items .before) (with-next .items .this) (with-next .items .after) (with-next .free) (with-next .rows) (between .is-free) steady-next
 
-  same-pool : h₀ ≡ withPool (a .rows .items) h₀
+  same-pool : header-vacated ≡ withPool (a .rows .items) header-vacated
   unfolding headerOf withOccupied withUsedItems withFreeItems
   same-pool = cc (stands .stored .header)
 
-  loosely : Loosely I h₀ (s .row) others m₂ c₂
+  -- both merges in turn: after each, tables and rules agree on the shelf that is open
+  loosely : Loosely I header-vacated (s .row) others loose loosened-now
   loosely =
-      let wide : widths (backOnto (w .item .before) (i ∷ w .item .after)) ≤ 65535 = rw items-are at (narrow .width) in
-      let l₁ : Loosely I h₀ (s .row) others m₁ c₁ =
-      next-merged I h₀ (s .row) others (w .item .before) i (s .free) (a .rows) c₀ was-live (w .item .after) (λ x m. all x (rw items-are m)) wide
-      (record { open-at = o; header = same-pool; first = ap (λ (v : ShelfRow). v .«first_unallocated») says }) in
-      subst (λ (q : ℕ). Loosely I h₀ (s .row) others m₂ (intoMerged c₁ (atRow q))) (between .same-row)
-      (into-merged I h₀ (s .row) others (m₁ .items .this) (m₁ .items .after) (m₁ .free) (m₁ .rows) c₁ (between .is-free) (rw (between .same-row) (between .unlisted)) (m₁ .items .before)
-      (rw (steady₁ .as-wide) (narrow .width)) l₁)
+      let wide : widths (backOnto (spot .item .before) (i ∷ spot .item .after)) ≤ 65535 = rw items-are at (narrow .width) in
+      let after-next : Loosely I header-vacated (s .row) others with-next next-done =
+      next-merged I header-vacated (s .row) others (spot .item .before) i (s .free) (a .rows) at-first was-live (spot .item .after) (λ x m. all x (rw items-are m)) wide
+      (record { open-at = opened; header = same-pool; first = ap (λ (v : ShelfRow). v .«first_unallocated») says }) in
+      subst (λ (q : ℕ). Loosely I header-vacated (s .row) others loose (intoMerged next-done (atRow q))) (between .same-row)
+      (into-merged I header-vacated (s .row) others (with-next .items .this) (with-next .items .after) (with-next .free) (with-next .rows) next-done (between .is-free) (rw (between .same-row) (between .unlisted)) (with-next .items .before)
+      (rw (steady-next .as-wide) (narrow .width)) after-next)
 
   -- ---- so much less is occupied
 
@@ -161,44 +165,44 @@ module _ (st : State) (a : Atlas) (w : Found)
   unfolding headerOf occupied
   was-occupied = ap (λ (q : Header). q .occupied) (stands .stored .header) ∙ ap occupied shelves-are ∙ occupied-onto bs (s ∷ ys)
 
-  less : h .occupied - i .width * s .depth ≡ occupied (backOnto bs (holding s (itemsOf m₂) (m₂ .free) ∷ ys))
+  less : h .occupied - i .width * s .depth ≡ occupied (backOnto bs (holding s (itemsOf loose) (loose .free) ∷ ys))
   unfolding occupied holding
-  less = omega (arith, was-occupied, occupied-onto bs (holding s (itemsOf m₂) (m₂ .free) ∷ ys), steady .live-area (s .depth), sum (s .depth))
+  less = omega (arith, was-occupied, occupied-onto bs (holding s (itemsOf loose) (loose .free) ∷ ys), steady .live-area (s .depth), sum (s .depth))
 
-  vacated : vacate (st .header) (areaAt (st .shelves) (st .items) (atRow (i .row))) ≡ h₀
+  vacated : vacate (st .header) (areaAt (st .shelves) (st .items) (atRow (i .row))) ≡ header-vacated
   unfolding vacate areaAt headerOf
   vacated =
       let fits : i .width * s .depth ≤ h .occupied = omega (arith, was-occupied, sum (s .depth)) in
       let small : h .occupied < 4294967296 = omega (arith, total, ap (λ (q : Header). q .occupied) (stands .stored .header)) in
-      rw (area-is (w .item .before) i (w .item .after) o S (s .depth) (ap (λ (v : ShelfRow). v .height) says), minus32-is (h .occupied) (i .width * s .depth) fits small)
+      rw (area-is (spot .item .before) i (spot .item .after) opened S (s .depth) (ap (λ (v : ShelfRow). v .height) says), minus32-is (h .occupied) (i .width * s .depth) fits small)
 
-  loosened-is : loosened st (onRow (s .row)) (atRow (i .row)) ≡ c₂
+  loosened-is : loosened st (onRow (s .row)) (atRow (i .row)) ≡ loosened-now
   loosened-is =
       loosened-step st (s .row) (i .row)
       ∙ ap (λ (k : Header). loosen (record { items = I; header = k; first = get shelves S (s .row) .«first_unallocated» }) (atRow (i .row))) vacated
-      ∙ loosen-step c₀ (i .row)
+      ∙ loosen-step at-first (i .row)
 
   -- ---- the shelf closed
 
-  emptied : flag (oneFree (c₂ .items) (get shelves S (s .row) .«first_item»)) ≡ flag (isEmpty (itemsOf m₂))
+  emptied : flag (oneFree (loosened-now .items) (get shelves S (s .row) .«first_item»)) ≡ flag (isEmpty (itemsOf loose))
   emptied =
-      let q : get shelves S (s .row) .«first_item» ≡ atRow (firstRow (item (s .row) .row) (itemsOf m₂)) =
+      let q : get shelves S (s .row) .«first_item» ≡ atRow (firstRow (item (s .row) .row) (itemsOf loose)) =
       ap (λ (v : ShelfRow). v .«first_item») says ∙ ap atRow (sym (steady .first-item)) in
-      rw (q, one-free (itemsOf m₂) (loosely .open-at))
+      rw (q, one-free (itemsOf loose) (loosely .open-at))
 
-  header-is : c₂ .header ≡ headerOf (reshelved a bs (holding s (itemsOf m₂) (m₂ .free)) ys (m₂ .rows .items))
+  header-is : loosened-now .header ≡ headerOf (reshelved a bs (holding s (itemsOf loose) (loose .free)) ys (loose .rows .items))
   unfolding withOccupied withUsedItems withFreeItems
-  header-is = loosely .header ∙ close-header st a bs s ys shelves-are stands (holding s (itemsOf m₂) (m₂ .free)) (m₂ .rows .items) (h .occupied - i .width * s .depth) less
+  header-is = loosely .header ∙ close-header st a bs s ys shelves-are stands (holding s (itemsOf loose) (loose .free)) (loose .rows .items) (h .occupied - i .width * s .depth) less
 
   -- the atlas with the item loosened
-  abbrev pub a′ : Atlas
-  a′ = record { limits = a .limits; shelves = backOnto bs (holding s (itemsOf m₂) (m₂ .free) ∷ ys); rows = m₂ .rows }
+  abbrev pub loosened-atlas : Atlas
+  loosened-atlas = record { limits = a .limits; shelves = backOnto bs (holding s (itemsOf loose) (loose .free) ∷ ys); rows = loose .rows }
 
-  rows-are : reshelved a bs (holding s (itemsOf m₂) (m₂ .free)) ys (m₂ .rows .items) ≡ a′
-  rows-are = ap (λ (p : Pool ℕ). record { limits = a .limits; shelves = backOnto bs (holding s (itemsOf m₂) (m₂ .free) ∷ ys); rows = record { shelves = p; items = m₂ .rows .items } }) (sym (steady .same-shelves))
+  rows-are : reshelved a bs (holding s (itemsOf loose) (loose .free)) ys (loose .rows .items) ≡ loosened-atlas
+  rows-are = ap (λ (p : Pool ℕ). record { limits = a .limits; shelves = backOnto bs (holding s (itemsOf loose) (loose .free) ∷ ys); rows = record { shelves = p; items = loose .rows .items } }) (sym (steady .same-shelves))
 
-  pub release-stands : Stands (releaseItem st (onRow (s .row)) (atRow (i .row))) a′
+  pub release-stands : Stands (releaseItem st (onRow (s .row)) (atRow (i .row))) loosened-atlas
   release-stands =
-      let f : c₂ .first .0 ≡ firstOf (m₂ .free) = ap (λ (k : ItemIndex). k .0) (loosely .first) in
+      let f : loosened-now .first .0 ≡ firstOf (loose .free) = ap (λ (k : ItemIndex). k .0) (loosely .first) in
       rw (release-step st (s .row) (i .row), loosened-is, ← rows-are)
-      (close-stands st a bs s ys shelves-are stands (c₂ .items) (itemsOf m₂) (m₂ .free) (m₂ .rows .items) (loosely .open-at) (steady .first-item) (c₂ .first) _ f emptied (c₂ .header) header-is)
+      (close-stands st a bs s ys shelves-are stands (loosened-now .items) (itemsOf loose) (loose .free) (loose .rows .items) (loosely .open-at) (steady .first-item) (loosened-now .first) _ f emptied (loosened-now .header) header-is)

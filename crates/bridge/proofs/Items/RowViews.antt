@@ -1,5 +1,5 @@
--- What a row says after changes. `simp reads` works out any run of changes of a table, and `simp sights` of the two views of an item row,
--- given that the rows differ that must. Assumes nothing.
+-- What a row says after changes, by two views of an item row: its body, and its links in the free list. `simp reads` works out any run of changes of a
+-- table, and `simp sights` of the views, given that the rows differ that must. Assumes nothing.
 use Rattle.numbers.specs.Library.{ℕ, _≡_, refl, ap, List}
 use Rattle.numbers.specs.declared.{index.ItemIndex.ItemIndex, index.ShelfIndex.ShelfIndex}
 use Rattle.rows.specs.Prelude.{get, rows-put, get-put-other, change, rows-change, get-change-other, get-put-there, get-change-there, unseen, items, withItemX}

@@ -1,4 +1,5 @@
--- Sums and free lists around a place. Assumes nothing.
+-- Sums of areas split at a place (items before and after it, shelves before and after it), and a free list with one row replaced or taken out.
+-- Assumes nothing.
 use Rattle.numbers.specs.Library.{ℕ, _+_, _≡_, refl, sym, ap, _∙_, ⊎-elim, Bool, true, false, List, [], _∷_, _++_, List·Memᴰ·head, List·Memᴰ·tail}
 use Rattle.numbers.specs.Library.{List·Memᴰ·not-nil, List·Memᴰ·cases-cons, Memᴰ·cast, arith, eqb, eq-eqb, ne-eqb}
 use Rattle.numbers.specs.Prelude.{pick}

@@ -1,4 +1,5 @@
--- A grant at a place, and the shelf of an item: the steps choose as the rules do. Assumes nothing.
+-- The step grants an item whole or splits it as the rules do, so what stands after it is the rules' atlas in either case; and an item's row names the
+-- shelf that it stands on. Assumes nothing.
 use Rattle.numbers.specs.Library.{ℕ, _<_, _≤_, _≡_, refl, ap, Bool, true, false, List, _∷_, _++_}
 use Rattle.numbers.specs.Prelude.{pick, mostArea}
 use Rattle.numbers.specs.declared.request.Asked.{Asked}
@@ -27,51 +28,51 @@ unfolding takeItem takePart takeWhole splitsRow useShelf takePartItems takeWhole
 take-step st on row a = refl
 
 -- an item of a shelf where it stands
-module _ (st : State) (a : Atlas) (f : Focus Shelf) (w : Focus Item)
-    (shelves-are : a .shelves ≡ backOnto (f .before) (f .this ∷ f .after))
-    (items-are : f .this .items ≡ backOnto (w .before) (w .this ∷ w .after)) (stands : Stands st a) where
-  o : Open (st .items) (st .items) (f .this .row) (backOnto (w .before) (w .this ∷ w .after)) (f .this .free) (a .rows .items) (allItemRows (f .before) ++ allItemRows (f .after))
-  o = rw items-are at (open-shelf st a (f .before) (f .this) (f .after) shelves-are stands)
+module _ (st : State) (a : Atlas) (shelf-at : Focus Shelf) (item-at : Focus Item)
+    (shelves-are : a .shelves ≡ backOnto (shelf-at .before) (shelf-at .this ∷ shelf-at .after))
+    (items-are : shelf-at .this .items ≡ backOnto (item-at .before) (item-at .this ∷ item-at .after)) (stands : Stands st a) where
+  opened : Open (st .items) (st .items) (shelf-at .this .row) (backOnto (item-at .before) (item-at .this ∷ item-at .after)) (shelf-at .this .free) (a .rows .items) (allItemRows (shelf-at .before) ++ allItemRows (shelf-at .after))
+  opened = rw items-are at (open-shelf st a (shelf-at .before) (shelf-at .this) (shelf-at .after) shelves-are stands)
 
   -- its row names the shelf
-  pub names-shelf : get items (st .items) (w .this .row) .shelf ≡ onRow (f .this .row)
-  names-shelf = seen-shelf (get items (st .items) (w .this .row)) (body-is (w .before) (w .this) (w .after) o)
+  pub names-shelf : get items (st .items) (item-at .this .row) .shelf ≡ onRow (shelf-at .this .row)
+  names-shelf = seen-shelf (get items (st .items) (item-at .this .row)) (body-is (item-at .before) (item-at .this) (item-at .after) opened)
 
   -- it is split or not as the rules say
-  pub splits-same : (asked : Asked) → splitsRow asked (get items (st .items) (w .this .row)) ≡ splitsItem asked (w .this)
+  pub splits-same : (asked : Asked) → splitsRow asked (get items (st .items) (item-at .this .row)) ≡ splitsItem asked (item-at .this)
   unfolding splitsRow splitsItem
-  splits-same asked = rw (seen-width (get items (st .items) (w .this .row)) (body-is (w .before) (w .this) (w .after) o))
+  splits-same asked = rw (seen-width (get items (st .items) (item-at .this .row)) (body-is (item-at .before) (item-at .this) (item-at .after) opened))
 
 -- `below` is what follows the shelf in the chain: with a shelf split, the new shelf first
-pub place-stands : (st : State) (a : Atlas) (f : Focus Shelf) (w : Focus Item) (below : List Shelf) (r : Rows) (asked : Asked)
-    → f .this .items ≡ backOnto (w .before) (w .this ∷ w .after)
-    → (fb fa : List ℕ) → f .this .free ≡ backOnto fb (w .this .row ∷ fa)
-    → Stands st (record { limits = a .limits; shelves = backOnto (f .before) (f .this ∷ below); rows = r })
-    → NarrowShelf (f .this) → occupied (backOnto (f .before) (f .this ∷ below)) ≤ mostArea
-    → asked .width ≤ w .this .width → (splitsItem asked (w .this) ≡ true → 0 < rowsLeft (roomIn (st .shelves) (st .items) .items) (r .items))
-    → (live : Live) (a′ : Atlas) → grantItem a asked f w below r ≡ grants live a′
-    → Stands (occupy (takeItem st (onRow (f .this .row)) (atRow (w .this .row)) asked) (atRow (w .this .row))) a′
+pub place-stands : (st : State) (a : Atlas) (shelf-at : Focus Shelf) (item-at : Focus Item) (below : List Shelf) (r : Rows) (asked : Asked)
+    → shelf-at .this .items ≡ backOnto (item-at .before) (item-at .this ∷ item-at .after)
+    → (fb fa : List ℕ) → shelf-at .this .free ≡ backOnto fb (item-at .this .row ∷ fa)
+    → Stands st (record { limits = a .limits; shelves = backOnto (shelf-at .before) (shelf-at .this ∷ below); rows = r })
+    → NarrowShelf (shelf-at .this) → occupied (backOnto (shelf-at .before) (shelf-at .this ∷ below)) ≤ mostArea
+    → asked .width ≤ item-at .this .width → (splitsItem asked (item-at .this) ≡ true → 0 < rowsLeft (roomIn (st .shelves) (st .items) .items) (r .items))
+    → (live : Live) (a′ : Atlas) → grantItem a asked shelf-at item-at below r ≡ grants live a′
+    → Stands (occupy (takeItem st (onRow (shelf-at .this .row)) (atRow (item-at .this .row)) asked) (atRow (item-at .this .row))) a′
 unfolding grantItem
-place-stands st a f w below r asked items-are fb fa free-are stands narrow total wide left live a′ =
-    go (splitsItem asked (w .this)) (liveOf (a .limits) (f .this) (grantedItem (w .this) (asked .width))) (liveOf (a .limits) (f .this) (grantedItem (w .this) (w .this .width))) refl where
-      a₀ : Atlas
-      a₀ = record { limits = a .limits; shelves = backOnto (f .before) (f .this ∷ below); rows = r }
+place-stands st a shelf-at item-at below r asked items-are fb fa free-are stands narrow total wide left live a′ =
+    go (splitsItem asked (item-at .this)) (liveOf (a .limits) (shelf-at .this) (grantedItem (item-at .this) (asked .width))) (liveOf (a .limits) (shelf-at .this) (grantedItem (item-at .this) (item-at .this .width))) refl where
+      before : Atlas
+      before = record { limits = a .limits; shelves = backOnto (shelf-at .before) (shelf-at .this ∷ below); rows = r }
 
-      f₀ : Focus Shelf
-      f₀ = record { before = f .before; this = f .this; after = below }
+      before-at : Focus Shelf
+      before-at = record { before = shelf-at .before; this = shelf-at .this; after = below }
 
-      same : splitsRow asked (get items (st .items) (w .this .row)) ≡ splitsItem asked (w .this)
-      same = splits-same st a₀ f₀ w refl items-are stands asked
+      same : splitsRow asked (get items (st .items) (item-at .this .row)) ≡ splitsItem asked (item-at .this)
+      same = splits-same st before before-at item-at refl items-are stands asked
 
-      go : (b : Bool) (part whole : Live) → splitsItem asked (w .this) ≡ b
+      go : (b : Bool) (part whole : Live) → splitsItem asked (item-at .this) ≡ b
           → pick b
-          (grants part (record { limits = a .limits; shelves = backOnto (f .before) (grantPart r (f .this) w (asked .width) ∷ below); rows = itemTaken r }))
-          (grants whole (record { limits = a .limits; shelves = backOnto (f .before) (grantWhole (f .this) w ∷ below); rows = r }))
+          (grants part (record { limits = a .limits; shelves = backOnto (shelf-at .before) (grantPart r (shelf-at .this) item-at (asked .width) ∷ below); rows = itemTaken r }))
+          (grants whole (record { limits = a .limits; shelves = backOnto (shelf-at .before) (grantWhole (shelf-at .this) item-at ∷ below); rows = r }))
           ≡ grants live a′
-          → Stands (occupy (takeItem st (onRow (f .this .row)) (atRow (w .this .row)) asked) (atRow (w .this .row))) a′
+          → Stands (occupy (takeItem st (onRow (shelf-at .this .row)) (atRow (item-at .this .row)) asked) (atRow (item-at .this .row))) a′
       go true part whole e q =
-          let eq : record { limits = a .limits; shelves = backOnto (f .before) (grantPart r (f .this) w (asked .width) ∷ below); rows = itemTaken r } ≡ a′ = ap (standing a′) q in
-          rw (take-step st (f .this .row) (w .this .row) asked, same, e, ← eq) (part-stands st a₀ f₀ w refl items-are fb fa free-are stands narrow total (asked .width) wide (left e))
+          let eq : record { limits = a .limits; shelves = backOnto (shelf-at .before) (grantPart r (shelf-at .this) item-at (asked .width) ∷ below); rows = itemTaken r } ≡ a′ = ap (standing a′) q in
+          rw (take-step st (shelf-at .this .row) (item-at .this .row) asked, same, e, ← eq) (part-stands st before before-at item-at refl items-are fb fa free-are stands narrow total (asked .width) wide (left e))
       go false part whole e q =
-          let eq : record { limits = a .limits; shelves = backOnto (f .before) (grantWhole (f .this) w ∷ below); rows = r } ≡ a′ = ap (standing a′) q in
-          rw (take-step st (f .this .row) (w .this .row) asked, same, e, ← eq) (whole-stands st a₀ f₀ w refl items-are fb fa free-are stands narrow total)
+          let eq : record { limits = a .limits; shelves = backOnto (shelf-at .before) (grantWhole (shelf-at .this) item-at ∷ below); rows = r } ≡ a′ = ap (standing a′) q in
+          rw (take-step st (shelf-at .this .row) (item-at .this .row) asked, same, e, ← eq) (whole-stands st before before-at item-at refl items-are fb fa free-are stands narrow total)
