@@ -88,13 +88,32 @@ module _ (st : State) (a : Atlas) (bs : List Shelf) (s : Shelf) (ys : List Shelf
   listings : Each FreeListed bs × Each FreeListed (s ∷ ys)
   listings = each-split FreeListed bs (s ∷ ys) (rw are at (stands .sound .free-listed))
 
+  -- the shelves before it, itself, and those after it
+  held-before : Each (Holds I) bs
+  held-before = held .0
+
+  held-here : Holds I s
+  held-here = held .1 .0
+
+  held-after : Each (Holds I) ys
+  held-after = held .1 .1
+
+  listed-before : Each FreeListed bs
+  listed-before = listings .0
+
+  listed-here : FreeListed s
+  listed-here = listings .1 .0
+
+  listed-after : Each FreeListed ys
+  listed-after = listings .1 .1
+
   pub open-shelf : Open I I (s .row) (s .items) (s .free) (a .rows .items) others
   open-shelf = record {
-    lie = held .1 .0 .in-order;
-    list = held .1 .0 .free-order;
-    live = held .1 .0 .live-unlinked;
-    free-once = rw self (listings .1 .0 .once);
-    only = λ r m. listings .1 .0 .only r (rw self at m);
+    lie = held-here .in-order;
+    list = held-here .free-order;
+    live = held-here .live-unlinked;
+    free-once = rw self (listed-here .once);
+    only = λ r m. listed-here .only r (rw self at m);
     freed = stands .stored .freed-items;
     shared = shared-same (itemRows (s .items) ++ others) (once-chain bs s ys (rw are at (stands .sound .item-rows .serving-once)))
         (λ r m. rw are (to-chain bs s ys r m)) (λ r m. from-chain bs s ys r (rw are at m)) (stands .sound .item-rows);
@@ -121,9 +140,9 @@ module _ (st : State) (a : Atlas) (bs : List Shelf) (s : Shelf) (ys : List Shelf
           (rw are at (stands .sound .shelf-rows .serving-once)) (λ r m n. simp reads)
           (λ c. simp (reads, shelf-there) (rw c (cc (first, first-free-is, empty-flag-is)))) (rw are at (stands .stored .shelf-chain));
       shelf-items = each-join (Holds I′) bs (holding s is free-list ∷ ys)
-          (each-holds I I′ bs (listings .0) (λ r m. opened .same r (Memᴰ·append-left (allItemRows ys) m)) (held .0)) (
+          (each-holds I I′ bs listed-before (λ r m. opened .same r (Memᴰ·append-left (allItemRows ys) m)) held-before) (
             record { in-order = opened .lie; free-order = opened .list; live-unlinked = opened .live },
-            each-holds I I′ ys (listings .1 .1) (λ r m. opened .same r (Memᴰ·append-right (allItemRows bs) m)) (held .1 .1),
+            each-holds I I′ ys listed-after (λ r m. opened .same r (Memᴰ·append-right (allItemRows bs) m)) held-after,
           );
       freed-shelves = chain-frame freedShelf (get shelves S) (get shelves (change shelves S (s .row) (withFree first-free empty-flag))) noRow (a .rows .shelves .freed)
           (λ r m. let n : r ≢ s .row = (λ q. stands .sound .shelf-rows .freed-exactly r .0 (rw self at m) .1 (Memᴰ·cast q s-in)) in simp reads) (stands .stored .freed-shelves);
@@ -134,7 +153,7 @@ module _ (st : State) (a : Atlas) (bs : List Shelf) (s : Shelf) (ys : List Shelf
     unfolding roomIn holding
     close-sound = record {
       in-room = record { shelves = simp rows-change (used-shelves st a stands); items = opened .room };
-      free-listed = each-join FreeListed bs (holding s is free-list ∷ ys) (listings .0) (record { once = rw self at (opened .free-once); only = λ r m. opened .only r (rw self m) }, listings .1 .1);
+      free-listed = each-join FreeListed bs (holding s is free-list ∷ ys) listed-before (record { once = rw self at (opened .free-once); only = λ r m. opened .only r (rw self m) }, listed-after);
       shelf-rows = rw (gather-onto (λ (q : Shelf). q .row ∷ []) bs (holding s is free-list ∷ ys) (s ∷ ys) refl) (rw are at (stands .sound .shelf-rows));
       item-rows = shared-same (allItemRows (backOnto bs (holding s is free-list ∷ ys))) (chain-once bs (holding s is free-list) ys (opened .shared .serving-once))
           (λ r m. from-chain bs (holding s is free-list) ys r m) (λ r m. to-chain bs (holding s is free-list) ys r m) (opened .shared);

@@ -1,5 +1,5 @@
--- What the steps do to the item table in a release is what the rules say: the item is free, and merged with its free neighbours.
--- Assumes nothing.
+-- The merges of a release on an opened shelf: a free next item is taken in, then the item is merged into a free previous one or goes to the front of
+-- the free list. What the steps do to the item table and the header is what the rules do to the shelf. Assumes nothing.
 use Rattle.numbers.specs.Library.{ℕ, _≤_, _+_, _≡_, refl, sym, ap, _∙_, inr, Bool, true, false, List, [], _∷_, _++_, List·Memᴰ·head, arith, eqb, ne-eqb}
 use Rattle.numbers.specs.Prelude.{pick, pick-ap, noRow}
 use Rattle.numbers.specs.declared.index.ItemIndex.{ItemIndex}
@@ -90,58 +90,59 @@ module _ (m : Loosened) (at n : ItemIndex) (e : get items (m .items) (at .0) .ne
   next-kept : isFreeItem (m .items) n ≡ false → nextMerged m at ≡ m
   next-kept b = next-step ∙ rw (e, b)
 
-module _ (I₀ : List ℕ) (h₀ : Header) (on : ℕ) (others : List ℕ) (ib : List Item) (i : Item) (fl : List ℕ) (r : Rows) (c : Loosened) (e : i .live ≡ true) where
-  abbrev i₀ : Item
-  i₀ = freeWith i (i .width)
+module _ (I₀ : List ℕ) (h₀ : Header) (on : ℕ) (others : List ℕ) (ib : List Item) (i : Item) (fl : List ℕ) (r : Rows) (steps : Loosened) (was-live : i .live ≡ true) where
+  abbrev freed-item : Item
+  freed-item = freeWith i (i .width)
 
-  abbrev c₁ : Loosened
-  c₁ = marked c (i .row)
+  abbrev marked-now : Loosened
+  marked-now = marked steps (i .row)
 
+  -- the item has no next one, a live one, or a free one; only in the last case the steps join the two
   pub next-merged : (ia : List Item) → ((x : ℕ) → x ∈ freeRows (backOnto ib (i ∷ ia)) → x ∈ fl) → widths (backOnto ib (i ∷ ia)) ≤ 65535
-      → Loosely I₀ h₀ on others (loose ib i ia fl r) c → Loosely I₀ h₀ on others (mergeNext (loose ib i ia fl r)) (nextMerged c₁ (atRow (i .row)))
+      → Loosely I₀ h₀ on others (loose ib i ia fl r) steps → Loosely I₀ h₀ on others (mergeNext (loose ib i ia fl r)) (nextMerged marked-now (atRow (i .row)))
   unfolding mergeNext freeWith freeItemRow replaceRow widths
-  next-merged [] all narrow l =
-      let (o, out) = freed-open ib i [] (l .open-at) e in
-      rw (next-kept c₁ (atRow (i .row)) (atRow noRow) (seen-next (get items (c₁ .items) (i .row)) (body-is ib i₀ [] o)) (no-test (c₁ .items)))
-      (record { open-at = o; header = l .header; first = l .first })
-  next-merged (n ∷ ia) all narrow l = go (n .live) refl where
-    o : Open I₀ (c₁ .items) on (backOnto ib (i₀ ∷ n ∷ ia)) fl (r .items) others
-    o = freed-open ib i (n ∷ ia) (l .open-at) e .0
+  next-merged [] all narrow agree =
+      let (opened, out) = freed-open ib i [] (agree .open-at) was-live in
+      rw (next-kept marked-now (atRow (i .row)) (atRow noRow) (seen-next (get items (marked-now .items) (i .row)) (body-is ib freed-item [] opened)) (no-test (marked-now .items)))
+      (record { open-at = opened; header = agree .header; first = agree .first })
+  next-merged (next-item ∷ ia) all narrow agree = go (next-item .live) refl where
+    opened : Open I₀ (marked-now .items) on (backOnto ib (freed-item ∷ next-item ∷ ia)) fl (r .items) others
+    opened = freed-open ib i (next-item ∷ ia) (agree .open-at) was-live .0
 
-    reads : get items (c₁ .items) (i .row) .next ≡ atRow (n .row)
-    reads = seen-next (get items (c₁ .items) (i .row)) (body-is ib i₀ (n ∷ ia) o)
+    reads : get items (marked-now .items) (i .row) .next ≡ atRow (next-item .row)
+    reads = seen-next (get items (marked-now .items) (i .row)) (body-is ib freed-item (next-item ∷ ia) opened)
 
-    test : (b : Bool) → n .live ≡ b → isFreeItem (c₁ .items) (atRow (n .row)) ≡ eqb (flag b) 0
-    test b f = free-test (i₀ ∷ ib) n ia o ∙ ap (λ (q : Bool). eqb (flag q) 0) f
+    test : (b : Bool) → next-item .live ≡ b → isFreeItem (marked-now .items) (atRow (next-item .row)) ≡ eqb (flag b) 0
+    test b next-flag = free-test (freed-item ∷ ib) next-item ia opened ∙ ap (λ (k : Bool). eqb (flag k) 0) next-flag
 
-    small : i .width + n .width ≤ 65535
-    small = omega (arith, widths-onto ib (i ∷ n ∷ ia))
+    small : i .width + next-item .width ≤ 65535
+    small = omega (arith, widths-onto ib (i ∷ next-item ∷ ia))
 
-    merged : (fb fa : List ℕ) → fl ≡ backOnto fb (n .row ∷ fa)
-        → Loosely I₀ h₀ on others (loose ib (freeWith i (i .width + n .width)) ia (replaceRow (n .row) [] fl) (freeItemRow n r))
+    merged : (fb fa : List ℕ) → fl ≡ backOnto fb (next-item .row ∷ fa)
+        → Loosely I₀ h₀ on others (loose ib (freeWith i (i .width + next-item .width)) ia (replaceRow (next-item .row) [] fl) (freeItemRow next-item r))
         (record {
-          items = joinNext (c .header) (unlist (c₁ .items) (atRow (n .row))) (atRow (i .row));
-          header = itemFreed (c .header) (atRow (n .row));
-          first = firstAfter (c .first) (atRow (n .row)) (get items (c₁ .items) (n .row) .«next_unallocated»);
+          items = joinNext (steps .header) (unlist (marked-now .items) (atRow (next-item .row))) (atRow (i .row));
+          header = itemFreed (steps .header) (atRow (next-item .row));
+          first = firstAfter (steps .first) (atRow (next-item .row)) (get items (marked-now .items) (next-item .row) .«next_unallocated»);
         })
-    merged fb fa q =
-        let o′ : Open I₀ (c₁ .items) on (backOnto ib (i₀ ∷ n ∷ ia)) (backOnto fb (n .row ∷ fa)) (r .items) others = rw q at o in
-        let out : n .row ∈ fb → ⊥ = λ m. onto-apart (λ x. x ∷ []) fb (n .row ∷ fa) (o′ .free-once) .2 (n .row) (rw self m) (List·Memᴰ·head refl) in
-        let cut : replaceRow (n .row) [] fl ≡ backOnto fb fa = rw q (replace-at (n .row) [] fb fa out) in
+    merged fb fa free-are =
+        let opened-at : Open I₀ (marked-now .items) on (backOnto ib (freed-item ∷ next-item ∷ ia)) (backOnto fb (next-item .row ∷ fa)) (r .items) others = rw free-are at opened in
+        let out : next-item .row ∈ fb → ⊥ = λ m. onto-apart (λ x. x ∷ []) fb (next-item .row ∷ fa) (opened-at .free-once) .2 (next-item .row) (rw self m) (List·Memᴰ·head refl) in
+        let cut : replaceRow (next-item .row) [] fl ≡ backOnto fb fa = rw free-are (replace-at (next-item .row) [] fb fa out) in
         rw cut (record {
-          open-at = next-open ib i n ia fb fa o′ (c .header) (head-of (r .items) h₀ (c .header) (l .header)) small;
-          header = freed-header (r .items) h₀ (c .header) (record { row = n .row; generation = n .generation }) (l .header);
-          first = first-removed (c .first) fb (n .row) fa (get items (c₁ .items) (n .row) .«next_unallocated») out (l .first ∙ ap (λ (k : List ℕ). atRow (firstOf k)) q) (seen-nextFree (get items (c₁ .items) (n .row)) (links-are fb (n .row) fa o′));
+          open-at = next-open ib i next-item ia fb fa opened-at (steps .header) (head-of (r .items) h₀ (steps .header) (agree .header)) small;
+          header = freed-header (r .items) h₀ (steps .header) (record { row = next-item .row; generation = next-item .generation }) (agree .header);
+          first = first-removed (steps .first) fb (next-item .row) fa (get items (marked-now .items) (next-item .row) .«next_unallocated») out (agree .first ∙ ap (λ (k : List ℕ). atRow (firstOf k)) free-are) (seen-nextFree (get items (marked-now .items) (next-item .row)) (links-are fb (next-item .row) fa opened-at));
         })
 
-    go : (b : Bool) → n .live ≡ b → Loosely I₀ h₀ on others (mergeNext (loose ib i (n ∷ ia) fl r)) (nextMerged c₁ (atRow (i .row)))
-    go true f =
-        chosen-yes (λ m. Loosely I₀ h₀ on others m (nextMerged c₁ (atRow (i .row)))) (n .live) _ _ f
-        (rw (next-kept c₁ (atRow (i .row)) (atRow (n .row)) reads (test true f)) (record { open-at = o; header = l .header; first = l .first }))
-    go false f =
-        let (fb, fa, q) = focus-of [] fl (n .row) (all (n .row) (in-onto freeOf (n .row) (i ∷ ib) (n ∷ ia) (inr (chosen-no (λ x. n .row ∈ (x ++ gather freeOf ia)) (n .live) _ _ f (List·Memᴰ·head refl))))) in
-        chosen-no (λ m. Loosely I₀ h₀ on others m (nextMerged c₁ (atRow (i .row)))) (n .live) _ _ f
-        (rw (next-taken c₁ (atRow (i .row)) (atRow (n .row)) reads (test false f)) (merged fb fa q))
+    go : (b : Bool) → next-item .live ≡ b → Loosely I₀ h₀ on others (mergeNext (loose ib i (next-item ∷ ia) fl r)) (nextMerged marked-now (atRow (i .row)))
+    go true next-flag =
+        chosen-yes (λ m. Loosely I₀ h₀ on others m (nextMerged marked-now (atRow (i .row)))) (next-item .live) _ _ next-flag
+        (rw (next-kept marked-now (atRow (i .row)) (atRow (next-item .row)) reads (test true next-flag)) (record { open-at = opened; header = agree .header; first = agree .first }))
+    go false next-flag =
+        let (fb, fa, free-are) = focus-of [] fl (next-item .row) (all (next-item .row) (in-onto freeOf (next-item .row) (i ∷ ib) (next-item ∷ ia) (inr (chosen-no (λ x. next-item .row ∈ (x ++ gather freeOf ia)) (next-item .live) _ _ next-flag (List·Memᴰ·head refl))))) in
+        chosen-no (λ m. Loosely I₀ h₀ on others m (nextMerged marked-now (atRow (i .row)))) (next-item .live) _ _ next-flag
+        (rw (next-taken marked-now (atRow (i .row)) (atRow (next-item .row)) reads (test false next-flag)) (merged fb fa free-are))
 
 -- ---- the previous item
 
@@ -164,38 +165,39 @@ module _ (m : Loosened) (at b : ItemIndex) (e : get items (m .items) (at .0) .pr
   into-pushed : isFreeItem (m .items) b ≡ false → intoMerged m at ≡ record { items = enlist (m .items) (m .first) at; header = m .header; first = at }
   into-pushed t = into-step ∙ rw (e, t)
 
-module _ (I₀ : List ℕ) (h₀ : Header) (on : ℕ) (others : List ℕ) (i : Item) (ia : List Item) (fl : List ℕ) (r : Rows) (c : Loosened)
-    (e : i .live ≡ false) (out : i .row ∈ listed fl → ⊥) where
+module _ (I₀ : List ℕ) (h₀ : Header) (on : ℕ) (others : List ℕ) (i : Item) (ia : List Item) (fl : List ℕ) (r : Rows) (steps : Loosened)
+    (is-free : i .live ≡ false) (out : i .row ∈ listed fl → ⊥) where
+  -- the item has no previous one, a live one, or a free one; only in the last case the steps join the two
   pub into-merged : (ib : List Item) → widths (backOnto ib (i ∷ ia)) ≤ 65535
-      → Loosely I₀ h₀ on others (loose ib i ia fl r) c → Loosely I₀ h₀ on others (mergeInto (loose ib i ia fl r)) (intoMerged c (atRow (i .row)))
+      → Loosely I₀ h₀ on others (loose ib i ia fl r) steps → Loosely I₀ h₀ on others (mergeInto (loose ib i ia fl r)) (intoMerged steps (atRow (i .row)))
   unfolding mergeInto freeWith freeItemRow widths
-  into-merged [] narrow l =
-      rw (into-pushed c (atRow (i .row)) (atRow noRow) (seen-prev (get items (c .items) (i .row)) (body-is [] i ia (l .open-at))) (no-test (c .items)), l .first)
-      (record { open-at = push-open [] i ia (l .open-at) e out; header = l .header; first = refl })
-  into-merged (b ∷ ib) narrow l = go (b .live) refl where
-    o : Open I₀ (c .items) on (backOnto (b ∷ ib) (i ∷ ia)) fl (r .items) others
-    o = l .open-at
+  into-merged [] narrow agree =
+      rw (into-pushed steps (atRow (i .row)) (atRow noRow) (seen-prev (get items (steps .items) (i .row)) (body-is [] i ia (agree .open-at))) (no-test (steps .items)), agree .first)
+      (record { open-at = push-open [] i ia (agree .open-at) is-free out; header = agree .header; first = refl })
+  into-merged (previous ∷ ib) narrow agree = go (previous .live) refl where
+    opened : Open I₀ (steps .items) on (backOnto (previous ∷ ib) (i ∷ ia)) fl (r .items) others
+    opened = agree .open-at
 
-    reads : get items (c .items) (i .row) .prev ≡ atRow (b .row)
-    reads = seen-prev (get items (c .items) (i .row)) (body-is (b ∷ ib) i ia o)
+    reads : get items (steps .items) (i .row) .prev ≡ atRow (previous .row)
+    reads = seen-prev (get items (steps .items) (i .row)) (body-is (previous ∷ ib) i ia opened)
 
-    follows : get items (c .items) (b .row) .next ≡ atRow (i .row)
-    follows = seen-next (get items (c .items) (b .row)) (body-is ib b (i ∷ ia) o)
+    follows : get items (steps .items) (previous .row) .next ≡ atRow (i .row)
+    follows = seen-next (get items (steps .items) (previous .row)) (body-is ib previous (i ∷ ia) opened)
 
-    test : (q : Bool) → b .live ≡ q → isFreeItem (c .items) (atRow (b .row)) ≡ eqb (flag q) 0
-    test q f = free-test ib b (i ∷ ia) o ∙ ap (λ (k : Bool). eqb (flag k) 0) f
+    test : (b : Bool) → previous .live ≡ b → isFreeItem (steps .items) (atRow (previous .row)) ≡ eqb (flag b) 0
+    test b previous-flag = free-test ib previous (i ∷ ia) opened ∙ ap (λ (k : Bool). eqb (flag k) 0) previous-flag
 
-    small : b .width + i .width ≤ 65535
-    small = omega (arith, widths-onto ib (b ∷ i ∷ ia))
+    small : previous .width + i .width ≤ 65535
+    small = omega (arith, widths-onto ib (previous ∷ i ∷ ia))
 
-    go : (q : Bool) → b .live ≡ q → Loosely I₀ h₀ on others (mergeInto (loose (b ∷ ib) i ia fl r)) (intoMerged c (atRow (i .row)))
-    go true f =
-        chosen-yes (λ m. Loosely I₀ h₀ on others m (intoMerged c (atRow (i .row)))) (b .live) _ _ f
-        (rw (into-pushed c (atRow (i .row)) (atRow (b .row)) reads (test true f), l .first) (record { open-at = push-open (b ∷ ib) i ia o e out; header = l .header; first = refl }))
-    go false f =
-        chosen-no (λ m. Loosely I₀ h₀ on others m (intoMerged c (atRow (i .row)))) (b .live) _ _ f
-        (rw (into-taken c (atRow (i .row)) (atRow (b .row)) reads (test false f) follows) (record {
-          open-at = into-open ib b i ia o f out (c .header) (head-of (r .items) h₀ (c .header) (l .header)) small;
-          header = freed-header (r .items) h₀ (c .header) (record { row = i .row; generation = i .generation }) (l .header);
-          first = l .first;
+    go : (b : Bool) → previous .live ≡ b → Loosely I₀ h₀ on others (mergeInto (loose (previous ∷ ib) i ia fl r)) (intoMerged steps (atRow (i .row)))
+    go true previous-flag =
+        chosen-yes (λ m. Loosely I₀ h₀ on others m (intoMerged steps (atRow (i .row)))) (previous .live) _ _ previous-flag
+        (rw (into-pushed steps (atRow (i .row)) (atRow (previous .row)) reads (test true previous-flag), agree .first) (record { open-at = push-open (previous ∷ ib) i ia opened is-free out; header = agree .header; first = refl }))
+    go false previous-flag =
+        chosen-no (λ m. Loosely I₀ h₀ on others m (intoMerged steps (atRow (i .row)))) (previous .live) _ _ previous-flag
+        (rw (into-taken steps (atRow (i .row)) (atRow (previous .row)) reads (test false previous-flag) follows) (record {
+          open-at = into-open ib previous i ia opened previous-flag out (steps .header) (head-of (r .items) h₀ (steps .header) (agree .header)) small;
+          header = freed-header (r .items) h₀ (steps .header) (record { row = i .row; generation = i .generation }) (agree .header);
+          first = agree .first;
         }))

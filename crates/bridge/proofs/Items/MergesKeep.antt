@@ -41,52 +41,52 @@ module _ (first width : ℕ) (shelf-rows : Pool ℕ) where
   pub next-steady : (area area′ : ℕ → ℕ) (ib : List Item) (i : Item) (ia : List Item) (fl : List ℕ) (r : Rows) → i .live ≡ true → ((d : ℕ) → area d ≡ area′ d + i .width * d)
       → Steady first width area shelf-rows (loose ib i ia fl r) → Steady first width area′ shelf-rows (mergeNext (loose ib i ia fl r))
   unfolding mergeNext freeWith freeItemRow liveArea widths
-  next-steady area area′ ib i [] fl r e sum s = record {
-    first-item = first-onto (item 0) ib (freeWith i (i .width)) i [] [] refl ∙ s .first-item;
-    live-area = λ d. omega (arith, sum d, s .live-area d, area-onto d ib (i ∷ []), area-onto d ib (freeWith i (i .width) ∷ []), ap (λ (b : Bool). pick b (i .width * d) 0) e);
-    as-wide = omega (arith, s .as-wide, widths-onto ib (i ∷ []), widths-onto ib (freeWith i (i .width) ∷ []));
-    same-shelves = s .same-shelves;
+  next-steady area area′ ib i [] fl r was-live sum was = record {
+    first-item = first-onto (item 0) ib (freeWith i (i .width)) i [] [] refl ∙ was .first-item;
+    live-area = λ d. omega (arith, sum d, was .live-area d, area-onto d ib (i ∷ []), area-onto d ib (freeWith i (i .width) ∷ []), ap (λ (b : Bool). pick b (i .width * d) 0) was-live);
+    as-wide = omega (arith, was .as-wide, widths-onto ib (i ∷ []), widths-onto ib (freeWith i (i .width) ∷ []));
+    same-shelves = was .same-shelves;
   }
-  next-steady area area′ ib i (n ∷ ia) fl r e sum s = go (n .live) refl where
-    go : (b : Bool) → n .live ≡ b → Steady first width area′ shelf-rows (mergeNext (loose ib i (n ∷ ia) fl r))
-    go true f = chosen-yes (Steady first width area′ shelf-rows) (n .live) _ _ f (record {
-      first-item = first-onto (item 0) ib (freeWith i (i .width)) i (n ∷ ia) (n ∷ ia) refl ∙ s .first-item;
-      live-area = λ d. omega (arith, sum d, s .live-area d, area-onto d ib (i ∷ n ∷ ia), area-onto d ib (freeWith i (i .width) ∷ n ∷ ia), ap (λ (b : Bool). pick b (i .width * d) 0) e);
-      as-wide = omega (arith, s .as-wide, widths-onto ib (i ∷ n ∷ ia), widths-onto ib (freeWith i (i .width) ∷ n ∷ ia));
-      same-shelves = s .same-shelves;
+  next-steady area area′ ib i (next-item ∷ ia) fl r was-live sum was = go (next-item .live) refl where
+    go : (b : Bool) → next-item .live ≡ b → Steady first width area′ shelf-rows (mergeNext (loose ib i (next-item ∷ ia) fl r))
+    go true next-flag = chosen-yes (Steady first width area′ shelf-rows) (next-item .live) _ _ next-flag (record {
+      first-item = first-onto (item 0) ib (freeWith i (i .width)) i (next-item ∷ ia) (next-item ∷ ia) refl ∙ was .first-item;
+      live-area = λ d. omega (arith, sum d, was .live-area d, area-onto d ib (i ∷ next-item ∷ ia), area-onto d ib (freeWith i (i .width) ∷ next-item ∷ ia), ap (λ (b : Bool). pick b (i .width * d) 0) was-live);
+      as-wide = omega (arith, was .as-wide, widths-onto ib (i ∷ next-item ∷ ia), widths-onto ib (freeWith i (i .width) ∷ next-item ∷ ia));
+      same-shelves = was .same-shelves;
     })
-    go false f = chosen-no (Steady first width area′ shelf-rows) (n .live) _ _ f (record {
-      first-item = first-onto (item 0) ib (freeWith i (i .width + n .width)) i ia (n ∷ ia) refl ∙ s .first-item;
+    go false next-flag = chosen-no (Steady first width area′ shelf-rows) (next-item .live) _ _ next-flag (record {
+      first-item = first-onto (item 0) ib (freeWith i (i .width + next-item .width)) i ia (next-item ∷ ia) refl ∙ was .first-item;
       live-area = λ d. omega (
         arith,
         sum d,
-        s .live-area d,
-        area-onto d ib (i ∷ n ∷ ia),
-        area-onto d ib (freeWith i (i .width + n .width) ∷ ia),
-        ap (λ (b : Bool). pick b (i .width * d) 0) e,
-        ap (λ (b : Bool). pick b (n .width * d) 0) f,
+        was .live-area d,
+        area-onto d ib (i ∷ next-item ∷ ia),
+        area-onto d ib (freeWith i (i .width + next-item .width) ∷ ia),
+        ap (λ (b : Bool). pick b (i .width * d) 0) was-live,
+        ap (λ (b : Bool). pick b (next-item .width * d) 0) next-flag,
       );
-      as-wide = omega (arith, s .as-wide, widths-onto ib (i ∷ n ∷ ia), widths-onto ib (freeWith i (i .width + n .width) ∷ ia));
-      same-shelves = s .same-shelves;
+      as-wide = omega (arith, was .as-wide, widths-onto ib (i ∷ next-item ∷ ia), widths-onto ib (freeWith i (i .width + next-item .width) ∷ ia));
+      same-shelves = was .same-shelves;
     })
 
   pub into-steady : (area : ℕ → ℕ) (ib : List Item) (i : Item) (ia : List Item) (fl : List ℕ) (r : Rows) → i .live ≡ false
       → Steady first width area shelf-rows (loose ib i ia fl r) → Steady first width area shelf-rows (mergeInto (loose ib i ia fl r))
   unfolding mergeInto freeWith freeItemRow liveArea widths
-  into-steady area [] i ia fl r e s = record { first-item = s .first-item; live-area = s .live-area; as-wide = s .as-wide; same-shelves = s .same-shelves }
-  into-steady area (p ∷ ib) i ia fl r e s = go (p .live) refl where
-    go : (b : Bool) → p .live ≡ b → Steady first width area shelf-rows (mergeInto (loose (p ∷ ib) i ia fl r))
-    go true f = chosen-yes (Steady first width area shelf-rows) (p .live) _ _ f (record { first-item = s .first-item; live-area = s .live-area; as-wide = s .as-wide; same-shelves = s .same-shelves })
-    go false f = chosen-no (Steady first width area shelf-rows) (p .live) _ _ f (record {
-      first-item = first-onto (item 0) ib (freeWith p (p .width + i .width)) p ia (i ∷ ia) refl ∙ s .first-item;
+  into-steady area [] i ia fl r is-free was = record { first-item = was .first-item; live-area = was .live-area; as-wide = was .as-wide; same-shelves = was .same-shelves }
+  into-steady area (previous ∷ ib) i ia fl r is-free was = go (previous .live) refl where
+    go : (b : Bool) → previous .live ≡ b → Steady first width area shelf-rows (mergeInto (loose (previous ∷ ib) i ia fl r))
+    go true previous-flag = chosen-yes (Steady first width area shelf-rows) (previous .live) _ _ previous-flag (record { first-item = was .first-item; live-area = was .live-area; as-wide = was .as-wide; same-shelves = was .same-shelves })
+    go false previous-flag = chosen-no (Steady first width area shelf-rows) (previous .live) _ _ previous-flag (record {
+      first-item = first-onto (item 0) ib (freeWith previous (previous .width + i .width)) previous ia (i ∷ ia) refl ∙ was .first-item;
       live-area = λ d. omega (
         arith,
-        s .live-area d,
-        area-onto d ib (p ∷ i ∷ ia),
-        area-onto d ib (freeWith p (p .width + i .width) ∷ ia),
-        ap (λ (b : Bool). pick b (p .width * d) 0) f,
-        ap (λ (b : Bool). pick b (i .width * d) 0) e,
+        was .live-area d,
+        area-onto d ib (previous ∷ i ∷ ia),
+        area-onto d ib (freeWith previous (previous .width + i .width) ∷ ia),
+        ap (λ (b : Bool). pick b (previous .width * d) 0) previous-flag,
+        ap (λ (b : Bool). pick b (i .width * d) 0) is-free,
       );
-      as-wide = omega (arith, s .as-wide, widths-onto ib (p ∷ i ∷ ia), widths-onto ib (freeWith p (p .width + i .width) ∷ ia));
-      same-shelves = s .same-shelves;
+      as-wide = omega (arith, was .as-wide, widths-onto ib (previous ∷ i ∷ ia), widths-onto ib (freeWith previous (previous .width + i .width) ∷ ia));
+      same-shelves = was .same-shelves;
     })

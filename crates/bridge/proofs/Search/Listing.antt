@@ -1,4 +1,4 @@
--- The list: a used row is listed exactly when its flag is 1, and what is listed of it is what the tables tell. Assumes nothing.
+-- The list: row by row, a used row is listed exactly when its flag is 1, and what is listed of it is what the tables tell. Assumes nothing.
 use Rattle.numbers.specs.Library.{ℕ, zero, suc, _≤_, _<_, _≡_, refl, sym, ap, _∙_, Option, none, some, List, [], _∷_, arith, eqb}
 use Rattle.numbers.specs.Prelude.{pick}
 use Rattle.rows.specs.Prelude.{get, items}

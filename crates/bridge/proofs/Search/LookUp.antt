@@ -25,16 +25,16 @@ freed-idle I p (f ∷ fi) c r m =
 
 module _ (h : Header) (S I : List ℕ) (a : Atlas) (stored : Stores h S I a) (sound : Sound (roomIn S I) a) where
   -- the row of an item where it stands, and that of its shelf
-  pub item-says : (w : Found) → FoundAt (w .item .this .row) (a .shelves) (a .shelves) (some w)
-      → bodyOf (get items I (w .item .this .row)) ≡ item (w .shelf .this .row) .says (firstRow (item 0 .row) (w .item .before)) (w .item .this) (firstRow (item 0 .row) (w .item .after))
-  item-says w found =
-      let holds : Each (Holds I) (w .shelf .this ∷ w .shelf .after) = each-split (Holds I) (w .shelf .before) (w .shelf .this ∷ w .shelf .after) (rw (found .0) at (stored .shelf-items)) .1 in
-      chain-split (item (w .shelf .this .row)) (λ r. bodyOf (get items I r)) (w .item .before) (w .item .this ∷ w .item .after) (rw (found .1) at (holds .0 .in-order)) .1 .0
+  pub item-says : (spot : Found) → FoundAt (spot .item .this .row) (a .shelves) (a .shelves) (some spot)
+      → bodyOf (get items I (spot .item .this .row)) ≡ item (spot .shelf .this .row) .says (firstRow (item 0 .row) (spot .item .before)) (spot .item .this) (firstRow (item 0 .row) (spot .item .after))
+  item-says spot found =
+      let holds : Each (Holds I) (spot .shelf .this ∷ spot .shelf .after) = each-split (Holds I) (spot .shelf .before) (spot .shelf .this ∷ spot .shelf .after) (rw (found .0) at (stored .shelf-items)) .1 in
+      chain-split (item (spot .shelf .this .row)) (λ r. bodyOf (get items I r)) (spot .item .before) (spot .item .this ∷ spot .item .after) (rw (found .1) at (holds .0 .in-order)) .1 .0
 
-  pub shelf-says : (w : Found) → (row : ℕ) → FoundAt row (a .shelves) (a .shelves) (some w)
-      → get shelves S (w .shelf .this .row) ≡ shelf .says (firstRow (shelf .row) (w .shelf .before)) (w .shelf .this) (firstRow (shelf .row) (w .shelf .after))
-  shelf-says w row found =
-      chain-split shelf (get shelves S) (w .shelf .before) (w .shelf .this ∷ w .shelf .after) (rw (found .0) at (stored .shelf-chain)) .1 .0
+  pub shelf-says : (spot : Found) → (row : ℕ) → FoundAt row (a .shelves) (a .shelves) (some spot)
+      → get shelves S (spot .shelf .this .row) ≡ shelf .says (firstRow (shelf .row) (spot .shelf .before)) (spot .shelf .this) (firstRow (shelf .row) (spot .shelf .after))
+  shelf-says spot row found =
+      chain-split shelf (get shelves S) (spot .shelf .before) (spot .shelf .this ∷ spot .shelf .after) (rw (found .0) at (stored .shelf-chain)) .1 .0
 
   -- a used row on no shelf is not live
   pub idle : (r : ℕ) → r < a .rows .items .used → (r ∈ allItemRows (a .shelves) → ⊥) → get items I r .allocated ≡ 0
@@ -51,23 +51,23 @@ turned false false = refl
 
 module _ (h : Header) (S I : List ℕ) (a : Atlas) (stored : Stores h S I a) (formed : WellFormed (roomIn S I) a) where
   -- what the tables say of an item that is found
-  pub told : (w : Found) (row : ℕ) → FoundAt row (a .shelves) (a .shelves) (some w) → table.liveAt h S I row ≡ liveOf (a .limits) (w .shelf .this) (w .item .this)
+  pub told : (spot : Found) (row : ℕ) → FoundAt row (a .shelves) (a .shelves) (some spot) → table.liveAt h S I row ≡ liveOf (a .limits) (spot .shelf .this) (spot .item .this)
   unfolding table.liveAt table.liveOfRows liveOf headerOf bodyOf
-  told w row found =
-      let i : Item = w .item .this in
-      let s : Shelf = w .shelf .this in
-      let here : FoundAt (i .row) (a .shelves) (a .shelves) (some w) = (found .0, found .1, refl) in
-      let body = item-says h S I a stored (formed .sound) w here in
-      let narrow : NarrowShelf s = shelf-narrow a (formed .shaped) (w .shelf .before) s (w .shelf .after) (found .0) in
+  told spot row found =
+      let i : Item = spot .item .this in
+      let s : Shelf = spot .shelf .this in
+      let here : FoundAt (i .row) (a .shelves) (a .shelves) (some spot) = (found .0, found .1, refl) in
+      let body = item-says h S I a stored (formed .sound) spot here in
+      let narrow : NarrowShelf s = shelf-narrow a (formed .shaped) (spot .shelf .before) s (spot .shelf .after) (found .0) in
       rw (
         sym (found .2),
         stored .header,
         ap (λ (b : Body). b .shelf) body,
-        shelf-says h S I a stored (formed .sound) w (i .row) here,
+        shelf-says h S I a stored (formed .sound) spot (i .row) here,
         ap (λ (b : Body). b .x) body,
         ap (λ (b : Body). b .width) body,
         ap (λ (b : Body). b .generation) body,
-        plus16-is (i .x) (i .width) (omega (arith, item-narrow s narrow (w .item .before) i (w .item .after) (found .1))),
+        plus16-is (i .x) (i .width) (omega (arith, item-narrow s narrow (spot .item .before) i (spot .item .after) (found .1))),
         plus16-is (s .y) (s .depth) (omega (arith, narrow .reach)),
       )
 
@@ -75,25 +75,26 @@ module _ (h : Header) (S I : List ℕ) (a : Atlas) (stored : Stores h S I a) (fo
   unfolding headerOf
   used-is = ap (λ (q : Header). q .«used_items») (stored .header)
 
-  pub found-used : (w : Found) (row : ℕ) → FoundAt row (a .shelves) (a .shelves) (some w) → row < a .rows .items .used
-  found-used w row found =
-      let mine : row ∈ itemRows (w .shelf .this .items) =
-      rw (found .1) (in-onto (λ (i : Item). i .row ∷ []) row (w .item .before) (w .item .this ∷ w .item .after) (inr (List·Memᴰ·head (sym (found .2))))) in
+  pub found-used : (spot : Found) (row : ℕ) → FoundAt row (a .shelves) (a .shelves) (some spot) → row < a .rows .items .used
+  found-used spot row found =
+      let mine : row ∈ itemRows (spot .shelf .this .items) =
+      rw (found .1) (in-onto (λ (i : Item). i .row ∷ []) row (spot .item .before) (spot .item .this ∷ spot .item .after) (inr (List·Memᴰ·head (sym (found .2))))) in
       formed .sound .item-rows .serving-used row
-      (rw (found .0) (in-onto (λ (s : Shelf). itemRows (s .items)) row (w .shelf .before) (w .shelf .this ∷ w .shelf .after) (inr (Memᴰ·append-left (allItemRows (w .shelf .after)) mine))))
+      (rw (found .0) (in-onto (λ (s : Shelf). itemRows (s .items)) row (spot .shelf .before) (spot .shelf .this ∷ spot .shelf .after) (inr (Memᴰ·append-left (allItemRows (spot .shelf .after)) mine))))
 
   -- the flag of a row is that of its item
-  pub allocated-says : (w : Found) (row : ℕ) → FoundAt row (a .shelves) (a .shelves) (some w) → get items I row .allocated ≡ flag (w .item .this .live)
+  pub allocated-says : (spot : Found) (row : ℕ) → FoundAt row (a .shelves) (a .shelves) (some spot) → get items I row .allocated ≡ flag (spot .item .this .live)
   unfolding bodyOf
-  allocated-says w row found = rw (sym (found .2)) (ap (λ (b : Body). b .allocated) (item-says h S I a stored (formed .sound) w (found .0, found .1, refl)))
+  allocated-says spot row found = rw (sym (found .2)) (ap (λ (b : Body). b .allocated) (item-says h S I a stored (formed .sound) spot (found .0, found .1, refl)))
 
-  live-same : (w : Found) (row generation : ℕ) → FoundAt row (a .shelves) (a .shelves) (some w) → table.isLive h I row generation ≡ names row generation (w .item .this)
+  -- a row that serves is in use; its flag and its generation are the item's
+  live-same : (spot : Found) (row generation : ℕ) → FoundAt row (a .shelves) (a .shelves) (some spot) → table.isLive h I row generation ≡ names row generation (spot .item .this)
   unfolding table.isLive names bodyOf
-  live-same w row generation found =
-      let i : Item = w .item .this in
-      let body = item-says h S I a stored (formed .sound) w (found .0, found .1, refl) in
+  live-same spot row generation found =
+      let i : Item = spot .item .this in
+      let body = item-says h S I a stored (formed .sound) spot (found .0, found .1, refl) in
       let g : get items I row .generation ≡ i .generation = rw (sym (found .2)) (ap (λ (b : Body). b .generation) body) in
-      rw (used-is, lt-ltb row (a .rows .items .used) (found-used w row found), allocated-says w row found, g, flag-one (i .live), eq-eqb row (i .row) (sym (found .2)), eqb-sym generation (i .generation))
+      rw (used-is, lt-ltb row (a .rows .items .used) (found-used spot row found), allocated-says spot row found, g, flag-one (i .live), eq-eqb row (i .row) (sym (found .2)), eqb-sym generation (i .generation))
       (turned (i .live) (eqb (i .generation) generation))
 
   dead : (row generation : ℕ) → row < a .rows .items .used → (row ∈ allItemRows (a .shelves) → ⊥) → table.isLive h I row generation ≡ false
@@ -104,21 +105,22 @@ module _ (h : Header) (S I : List ℕ) (a : Atlas) (stored : Stores h S I a) (fo
   unfolding table.isLive
   unused row generation b = rw (used-is, le-ltb row (a .rows .items .used) b)
 
-  named-live : (row generation : ℕ) (w : Found) → names row generation (w .item .this) ≡ true → w .item .this .live ≡ true
+  named-live : (row generation : ℕ) (spot : Found) → names row generation (spot .item .this) ≡ true → spot .item .this .live ≡ true
   unfolding names
-  named-live row generation w e =
-      both (eqb row (w .item .this .row) && eqb generation (w .item .this .generation)) (w .item .this .live) e .1
+  named-live row generation spot e =
+      both (eqb row (spot .item .this .row) && eqb generation (spot .item .this .generation)) (spot .item .this .live) e .1
 
   -- the id names no live item, or this one
   abbrev pub LiveSays : ℕ → ℕ → Option Found → Type 0
   LiveSays row generation none = table.isLive h I row generation ≡ false
-  LiveSays row generation (some w) = (table.isLive h I row generation ≡ true) × FoundAt row (a .shelves) (a .shelves) (some w) × (w .item .this .live ≡ true)
+  LiveSays row generation (some spot) = (table.isLive h I row generation ≡ true) × FoundAt row (a .shelves) (a .shelves) (some spot) × (spot .item .this .live ≡ true)
 
+  -- a row that serves is tested as its item is; any other is freed, or not in use at all
   pub live-says : (row generation : ℕ) → LiveSays row generation (findLive a row generation)
   unfolding findLive
   live-says row generation = go (find row [] (a .shelves)) (find-at row [] (a .shelves)) where
-    go : (o : Option Found) → FoundAt row (a .shelves) (a .shelves) o → LiveSays row generation (elim o [ none ↦ none | some w ↦ pick (names row generation (w .item .this)) (some w) none ])
+    go : (o : Option Found) → FoundAt row (a .shelves) (a .shelves) o → LiveSays row generation (elim o [ none ↦ none | some spot ↦ pick (names row generation (spot .item .this)) (some spot) none ])
     go none out = elim (decLt row (a .rows .items .used)) [ yes b ↦ dead row generation b out | no b ↦ unused row generation (omega arith) ]
-    go (some w) found =
-        pick-cases (LiveSays row generation) (names row generation (w .item .this)) (some w) none
-        (λ e. (live-same w row generation found ∙ e, found, named-live row generation w e)) (λ e. live-same w row generation found ∙ e)
+    go (some spot) found =
+        pick-cases (LiveSays row generation) (names row generation (spot .item .this)) (some spot) none
+        (λ e. (live-same spot row generation found ∙ e, found, named-live row generation spot e)) (λ e. live-same spot row generation found ∙ e)

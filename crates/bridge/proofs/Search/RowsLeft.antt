@@ -78,19 +78,19 @@ module _ (h : Header) (S I : List ℕ) (a : Atlas) (stored : Stores h S I a) (fo
   unfolding roomIn
   item-some r m e = omega (arith, formed .sound .item-rows .freed-exactly r .0 m .0, formed .sound .in-room .items, rows-few items I)
 
-  pub enough-says : (shelfSplit itemSplit : Bool) → table.enoughRows h S I shelfSplit itemSplit ≡ not (rule.tooFewRows (roomIn S I) (a .rows) shelfSplit itemSplit)
+  pub enough-says : (shelf-split item-split : Bool) → table.enoughRows h S I shelf-split item-split ≡ not (rule.tooFewRows (roomIn S I) (a .rows) shelf-split item-split)
   unfolding table.enoughRows table.spareShelves table.spareItems table.freedShelves table.freedItems rule.tooFewRows roomIn headerOf seen-one seen-two
-  enough-says b c =
+  enough-says shelf-split item-split =
       rw (
         stored .header,
-        same-count b,
-        same-count c,
-        one-enough (rule.count b) (rows shelves S - a .rows .shelves .used) (a .rows .shelves .freed) (need-one b) shelf-some,
-        two-enough I (rule.count b + rule.count c) (rows items I - a .rows .items .used) (a .rows .items .freed) (omega (arith, need-one b, need-one c)) item-some (stored .freed-items),
-        enough-not-few (rule.count b) (rows shelves S - a .rows .shelves .used + length (a .rows .shelves .freed)),
-        enough-not-few (rule.count b + rule.count c) (rows items I - a .rows .items .used + length (a .rows .items .freed)),
+        same-count shelf-split,
+        same-count item-split,
+        one-enough (rule.count shelf-split) (rows shelves S - a .rows .shelves .used) (a .rows .shelves .freed) (need-one shelf-split) shelf-some,
+        two-enough I (rule.count shelf-split + rule.count item-split) (rows items I - a .rows .items .used) (a .rows .items .freed) (omega (arith, need-one shelf-split, need-one item-split)) item-some (stored .freed-items),
+        enough-not-few (rule.count shelf-split) (rows shelves S - a .rows .shelves .used + length (a .rows .shelves .freed)),
+        enough-not-few (rule.count shelf-split + rule.count item-split) (rows items I - a .rows .items .used + length (a .rows .items .freed)),
       )
-      (neither (ltb (rows shelves S - a .rows .shelves .used + length (a .rows .shelves .freed)) (rule.count b)) (ltb (rows items I - a .rows .items .used + length (a .rows .items .freed)) (rule.count b + rule.count c)))
+      (neither (ltb (rows shelves S - a .rows .shelves .used + length (a .rows .shelves .freed)) (rule.count shelf-split)) (ltb (rows items I - a .rows .items .used + length (a .rows .items .freed)) (rule.count shelf-split + rule.count item-split)))
 
   -- the place that a search holds: shelf s, which the rows p and n stand around, and item i of it
   pub rows-say : (q : Asked) (s : Shelf) (p n : ℕ) → get shelves S (s .row) ≡ shelf .says p s n

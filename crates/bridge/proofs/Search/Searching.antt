@@ -1,5 +1,5 @@
--- The search, where an atlas lies in the tables: it holds the rows of what the rules' search holds, or nothing where that holds nothing.
--- Assumes nothing.
+-- The search as a whole, where an atlas is stored in the tables: it holds the rows of what the rules' search holds, or nothing where that holds
+-- nothing. Assumes nothing.
 use Rattle.numbers.specs.Library.{ℕ, _≤_, _<_, _≡_, refl, sym, List, [], _∷_, Memᴰ·append-left, Memᴰ·append-right, arith, length}
 use Rattle.numbers.specs.Prelude.{noRow}
 use Rattle.numbers.specs.declared.request.Asked.{Asked}
@@ -28,6 +28,7 @@ rows-length : (ss : List Shelf) → length (shelfRows ss) ≡ length ss
 rows-length [] = refl
 rows-length (s ∷ rest) = rw (rows-length rest)
 
+-- the walk from the first shelf; the tables' walk is given as many steps as there are used rows, which is enough
 pub search-says : (h : Header) (S I : List ℕ) (a : Atlas) → Stores h S I a → WellFormed (roomIn S I) a
     → (q : Asked) → table.search h S I q ≡ held-rows (rule.search q (a .shelves))
 unfolding table.search rule.search headerOf roomIn

@@ -1,4 +1,5 @@
--- The search of the tables holds what the rules' walk holds. Assumes nothing.
+-- The walk of the shelf chain, from any shelf on: what the search of the tables holds at each step is what the rules' walk holds, by its rows.
+-- Assumes nothing.
 use Rattle.numbers.specs.Library.{ℕ, zero, suc, _≤_, _≡_, refl, ap, _∙_, _≢_, ⊎-elim, Bool, true, false, _&&_, _||_, Option, none, some, List, [], _∷_}
 use Rattle.numbers.specs.Library.{List·Memᴰ·head, List·Memᴰ·tail, List·Memᴰ·not-nil, List·Memᴰ·cases-cons, ℕ-discrete, arith, length, eqb, leb, eq-eqb, ne-eqb}
 use Rattle.numbers.specs.Prelude.{pick, noRow, noItem}
@@ -13,7 +14,7 @@ use Rattle.search.specs.Search as table
 use Rattle.search.specs.declared.Held.{Held}
 use Rattle.search.specs.declared.Held.the-variants.{Nothing, Good, Bad}
 
--- ---- the first item wide enough
+-- ---- the first item wide enough, on the free list of one shelf
 
 -- an optional row as a link
 abbrev pub link : Option ℕ → ItemIndex
@@ -63,7 +64,7 @@ wide-part I used s ready width p (r ∷ rest) within c (suc steps) h =
     next-part I r p rest (c .0) width steps ∙ wide-part I used s ready width r rest (λ q m. within q (List·Memᴰ·tail m)) (c .1) steps (omega arith) in
     rw (ne-eqb r noRow some-row, wide, later) (choice (leb width (rule.widthOf r (s .items))) r (rule.firstWide width (s .items) rest))
 
--- ---- one shelf
+-- ---- one shelf looked at
 
 -- what the walk holds, by its rows
 abbrev pub held-rows : rule.Held → Held

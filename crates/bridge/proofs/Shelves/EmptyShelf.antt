@@ -1,8 +1,7 @@
--- An empty shelf: its flag as a number, and its one free item. Assumes nothing.
+-- An empty shelf is one free item. Assumes nothing.
 use Rattle.numbers.specs.Library.{_≡_, refl, Bool, true, false, not, false≢true, List, [], _∷_}
 use Rattle.rules.specs.Prelude.{Item, isEmpty}
 
--- an empty shelf is one free item
 pub lone-item : (is : List Item) → isEmpty is ≡ true → (i : Item) × (is ≡ i ∷ []) × (i .live ≡ false)
 unfolding isEmpty
 lone-item [] e = absurd (false≢true e)

@@ -1,4 +1,4 @@
--- The shelf of a grant: split where the rules split it, else left as it is. Assumes nothing.
+-- The shelf of a grant is made to fit: split where the rules split it, else left as it is. Assumes nothing.
 use Rattle.numbers.specs.Library.{ℕ, _<_, _≤_, _+_, _^_, _≡_, refl, true, false, List, _∷_, arith, ltb-true}
 use Rattle.numbers.specs.Prelude.{pick, largeEnoughToSplit, both}
 use Rattle.numbers.specs.declared.request.Asked.{Asked}
@@ -31,6 +31,7 @@ module _ (st : State) (a : Atlas) (bs : List Shelf) (s : Shelf) (ys : List Shelf
   pub fit-whole : splitsShelf asked s ≡ false → fitShelf st (onRow (s .row)) asked ≡ st
   fit-whole e = rw (fit-step, splits-shelf-same, e)
 
+  -- a shelf that is split is empty and deep enough, so its one free item is that of the upper part
   pub fit-split : splitsShelf asked s ≡ true → s .y + s .depth < 2 ^ 16
       → 0 < rowsLeft (rows shelves (st .shelves)) (a .rows .shelves) → 0 < rowsLeft (rows items (st .items)) (a .rows .items)
       → Leads st (fitShelf st (onRow (s .row)) asked)

@@ -1,4 +1,5 @@
--- Create and clear: a fresh atlas lies in the rows that they write, and they write rows 0 to C - 1 only. Assumes nothing.
+-- Create and clear write one row of each table for each column, rows 0 to C - 1 and no other, and a fresh atlas is stored in what they write.
+-- Assumes nothing.
 use Rattle.numbers.specs.Library.{ℕ, zero, suc, _<_, _≤_, _+_, _*_, _≡_, refl, ap, _∙_, List, List·Memᴰ·not-nil, suc-mul, le-div-iff-mul-le, ℕ-discrete, arith}
 use Rattle.numbers.specs.Library.{lt-ltb, le-ltb}
 use Rattle.numbers.specs.declared.limits.Limits.{Limits}

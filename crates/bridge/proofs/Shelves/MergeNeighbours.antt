@@ -1,4 +1,5 @@
--- The two merges of shelves at the end of a release, as the rules say them: they lead to the atlas that the rules make. Assumes nothing.
+-- The two merges of shelves at the end of a release: the next shelf into this one, then this one into the previous. Each makes the choice that the
+-- rules make, and leads to the atlas that they make. Assumes nothing.
 use Rattle.numbers.specs.Library.{ℕ, _<_, _≤_, _+_, _^_, _≡_, refl, ap, subst, Bool, true, false, _&&_, and-false, List, [], _∷_, arith, eqb}
 use mathlib.Core.Bool.{and-assoc}
 use Rattle.numbers.specs.Prelude.{pick, noRow, noShelf, both}
@@ -36,7 +37,7 @@ LowBelow m = (n : Shelf) (ys : List Shelf) → m .shelves .after ≡ n ∷ ys �
 abbrev pub LowAbove : Stack → Type 0
 LowAbove m = (p : Shelf) (bs : List Shelf) → m .shelves .before ≡ p ∷ bs → Low p (m .shelves .this)
 
--- ---- what is read of two neighbours
+-- ---- the test of two neighbours, read from their rows; where there is no neighbour, the row that is read is no empty shelf's
 
 joins-read : (S : List ℕ) (s t : Shelf) (b c d e : ℕ) → get shelves S (s .row) ≡ shelf .says b s c → get shelves S (t .row) ≡ shelf .says d t e
     → joinsAt S (onRow (s .row)) (onRow (t .row)) ≡ joins s t
@@ -96,9 +97,9 @@ module _ (st : State) (l : Limits) (bs : List Shelf) (p s : Shelf) (ys : List Sh
   joined j low =
       let (empty, same-x) = both (isEmpty (p .items) && isEmpty (s .items)) (eqb (p .x) (s .x)) j in
       let (above, below) = both (isEmpty (p .items)) (isEmpty (s .items)) empty in
-      let (k, ip, fp) = lone-item (p .items) above in
-      let (i, is, fs) = lone-item (s .items) below in
-      merge-leads st (stacked l (stack (p ∷ bs) s ys r)) bs p s ys i k refl is fs ip fp low stands
+      let (item-above, above-is-lone, above-is-free) = lone-item (p .items) above in
+      let (item-below, below-is-lone, below-is-free) = lone-item (s .items) below in
+      merge-leads st (stacked l (stack (p ∷ bs) s ys r)) bs p s ys item-below item-above refl below-is-lone below-is-free above-is-lone above-is-free low stands
 
   above-is : get shelves (st .shelves) (p .row) ≡ shelf .says (firstRow (shelf .row) bs) p (s .row)
   above-is = shelf-says st _ stands bs p (s ∷ ys) refl
@@ -191,5 +192,5 @@ merge-both st l m low-below low-above stands =
     let below : Leads st mid (stacked l (mergeBelow m)) = merge-below st l m low-below stands in
     let above : Leads mid (mergeAboveAt mid (onRow (m .shelves .this .row))) (stacked l (mergeAbove (mergeBelow m))) =
     subst (λ (r : ℕ). Leads mid (mergeAboveAt mid (onRow r)) (stacked l (mergeAbove (mergeBelow m)))) (below-row m) (merge-above mid l (mergeBelow m) low-above (below .stands)) in
-    let (s, i) = above-used (mergeBelow m) in
-    leads-then s i below above
+    let (more-shelves, more-items) = above-used (mergeBelow m) in
+    leads-then more-shelves more-items below above

@@ -1,5 +1,5 @@
--- An empty shelf split in two: its row keeps the upper part, and the lower one, with an item of its own, is in rows newly taken.
--- The tables that the step leaves are those in which the split atlas lies. Assumes nothing.
+-- An empty shelf split in two: its row keeps the upper part, and the lower one, with an item of its own, is in rows newly taken. The split atlas
+-- stands in what the step leaves. Assumes nothing.
 use Rattle.numbers.specs.Library.{ℕ, _<_, _≤_, _+_, _-_, _^_, _≡_, refl, sym, ap, _∙_, _≢_, _⊎_, inl, inr, false, List, [], _∷_, List·Memᴰ·head, List·Memᴰ·tail}
 use Rattle.numbers.specs.Library.{List·Memᴰ·not-nil, Memᴰ·cast, Memᴰ·append-left, Memᴰ·append-right, arith, lt-ltb}
 use Rattle.numbers.specs.Prelude.{noRow}
@@ -26,8 +26,8 @@ use Rattle.bridge.proofs.Items.PoolRows.{shelfRow, freedRow, withPool, 
 use Rattle.bridge.proofs.LeadsTo.{Leads}
 use Rattle.bridge.proofs.Shelves.NewRows.{withShelfPool, shelf-is-fresh, item-is-fresh, new-shelf, new-item, both-taken, item-added}
 
-module _ (st : State) (a : Atlas) (bs : List Shelf) (s : Shelf) (ys : List Shelf) (j : Item) (d : ℕ)
-    (are : a .shelves ≡ backOnto bs (s ∷ ys)) (lone : s .items ≡ j ∷ []) (is-free : j .live ≡ false)
+module _ (st : State) (a : Atlas) (bs : List Shelf) (s : Shelf) (ys : List Shelf) (its-item : Item) (d : ℕ)
+    (are : a .shelves ≡ backOnto bs (s ∷ ys)) (lone : s .items ≡ its-item ∷ []) (is-free : its-item .live ≡ false)
     (within : d ≤ s .depth) (low : s .y + s .depth < 2 ^ 16)
     (stands : Stands st a)
     (shelf-left : 0 < rowsLeft (rows shelves (st .shelves)) (a .rows .shelves)) (item-left : 0 < rowsLeft (rows items (st .items)) (a .rows .items)) where
@@ -46,18 +46,18 @@ module _ (st : State) (a : Atlas) (bs : List Shelf) (s : Shelf) (ys : List Shelf
   abbrev sound : Sound (roomIn S I) a
   sound = stands .sound
 
-  abbrev ps : Pool ℕ
-  ps = a .rows .shelves
+  abbrev shelf-pool : Pool ℕ
+  shelf-pool = a .rows .shelves
 
-  abbrev pi : Pool Freed
-  pi = a .rows .items
+  abbrev item-pool : Pool Freed
+  item-pool = a .rows .items
 
   -- the rows that are taken, and the shelf after this one
-  abbrev on : ℕ
-  on = newRow shelfRow ps
+  abbrev new-row : ℕ
+  new-row = newRow shelfRow shelf-pool
 
-  abbrev at-new : ℕ
-  at-new = newRow freedRow pi
+  abbrev new-item-row : ℕ
+  new-item-row = newRow freedRow item-pool
 
   abbrev next : ℕ
   next = firstRow (shelf .row) ys
@@ -68,16 +68,16 @@ module _ (st : State) (a : Atlas) (bs : List Shelf) (s : Shelf) (ys : List Shelf
 
   abbrev lower : Shelf
   lower = record {
-    row = on;
+    row = new-row;
     x = s .x;
     y = s .y + d;
     depth = s .depth - d;
-    items = freeItem at-new (s .x) (a .limits .«shelf_width») (newGeneration pi) ∷ [];
-    free = at-new ∷ [];
+    items = freeItem new-item-row (s .x) (a .limits .«shelf_width») (newGeneration item-pool) ∷ [];
+    free = new-item-row ∷ [];
   }
 
   abbrev split-atlas : Atlas
-  split-atlas = record { limits = a .limits; shelves = backOnto bs (upper ∷ lower ∷ ys); rows = record { shelves = taken ps; items = taken pi } }
+  split-atlas = record { limits = a .limits; shelves = backOnto bs (upper ∷ lower ∷ ys); rows = record { shelves = taken shelf-pool; items = taken item-pool } }
 
   parts-are : record { limits = a .limits; shelves = backOnto bs (upperPart d s ∷ lowerPart (a .limits) (a .rows) d s ∷ ys); rows = itemTaken (shelfTaken (a .rows)) } ≡ split-atlas
   unfolding upperPart lowerPart itemTaken shelfTaken
@@ -91,33 +91,33 @@ module _ (st : State) (a : Atlas) (bs : List Shelf) (s : Shelf) (ys : List Shelf
   -- ---- the step
 
   abbrev h′ : Header
-  h′ = withPool (taken pi) (withShelfPool (taken ps) h)
+  h′ = withPool (taken item-pool) (withShelfPool (taken shelf-pool) h)
 
   abbrev S′ : List ℕ
-  S′ = change shelves (change shelves (put shelves S on (lowerOf (get shelves S (s .row)) (onRow (s .row)) d (record { 0 = at-new }))) (s .row) (withReach d (onRow on))) next (withShelfPrev (onRow on))
+  S′ = change shelves (change shelves (put shelves S new-row (lowerOf (get shelves S (s .row)) (onRow (s .row)) d (record { 0 = new-item-row }))) (s .row) (withReach d (onRow new-row))) next (withShelfPrev (onRow new-row))
 
   abbrev lone-row : ItemRow
-  lone-row = withGeneration (newGeneration pi) (loneItem (s .x) (a .limits .«shelf_width») (onRow on))
+  lone-row = withGeneration (newGeneration item-pool) (loneItem (s .x) (a .limits .«shelf_width») (onRow new-row))
 
   abbrev I′ : List ℕ
-  I′ = put items I at-new lone-row
+  I′ = put items I new-item-row lone-row
 
-  on-is : newShelf h ≡ onRow on
-  on-is = new-shelf st a stands shelf-left item-left
+  new-row-is : newShelf h ≡ onRow new-row
+  new-row-is = new-shelf st a stands shelf-left item-left
 
   shelf-added : splitShelfTable h S (onRow (s .row)) d ≡ S′
   unfolding splitShelfTable addShelf
-  shelf-added = rw (on-is, new-item st a stands shelf-left item-left, ap (λ (q : ShelfRow). q .next) said)
+  shelf-added = rw (new-row-is, new-item st a stands shelf-left item-left, ap (λ (q : ShelfRow). q .next) said)
 
   lone-added : addItem I (shelfTakenAt S h) (loneItem (get shelves S (s .row) .x) (h .limits .«shelf_width») (newShelf h)) ≡ I′
   lone-added =
       item-added st a stands shelf-left item-left _
       ∙ ap (λ (v : ShelfRow). added (loneItem (v .x) (h .limits .«shelf_width») (newShelf h))) said
       ∙ ap (λ (w : ℕ). added (loneItem (s .x) w (newShelf h))) (shelf-width-is st a stands)
-      ∙ ap (λ (n : ShelfIndex). added (loneItem (s .x) (a .limits .«shelf_width») n)) on-is
+      ∙ ap (λ (n : ShelfIndex). added (loneItem (s .x) (a .limits .«shelf_width») n)) new-row-is
     where
       added : ItemRow → List ℕ
-      added v = put items I at-new (withGeneration (newGeneration pi) v)
+      added v = put items I new-item-row (withGeneration (newGeneration item-pool) v)
 
   split-is : splitShelf st (onRow (s .row)) d ≡ state h′ S′ I′
   unfolding splitShelf
@@ -131,60 +131,61 @@ module _ (st : State) (a : Atlas) (bs : List Shelf) (s : Shelf) (ys : List Shelf
   s-in : s .row ∈ shelfRows (a .shelves)
   s-in = serves (s .row) (inr (List·Memᴰ·head refl))
 
-  sf : Fresh shelfRow (rows shelves S) (shelfRows (a .shelves)) ps
-  sf = shelf-is-fresh st a stands shelf-left item-left
+  unserved-shelf : Fresh shelfRow (rows shelves S) (shelfRows (a .shelves)) shelf-pool
+  unserved-shelf = shelf-is-fresh st a stands shelf-left item-left
 
-  ne-new : (r : ℕ) → r ∈ shelfRows (a .shelves) → r ≢ on
-  ne-new r m = not-out (sf .out) m
+  ne-new : (r : ℕ) → r ∈ shelfRows (a .shelves) → r ≢ new-row
+  ne-new r m = not-out (unserved-shelf .out) m
 
   some : (r : ℕ) → r < rows shelves S → r ≢ noRow
   some r b = omega (arith, rows-few shelves S)
 
-  upper-says : get shelves S (s .row) ≡ shelf .says (firstRow (shelf .row) bs) s next → withReach d (onRow on) (get shelves S (s .row)) ≡ shelf .says (firstRow (shelf .row) bs) upper on
+  upper-says : get shelves S (s .row) ≡ shelf .says (firstRow (shelf .row) bs) s next → withReach d (onRow new-row) (get shelves S (s .row)) ≡ shelf .says (firstRow (shelf .row) bs) upper new-row
   unfolding withReach withHeight withShelfNext
   upper-says c = rw c
 
   lower-says : get shelves S (s .row) ≡ shelf .says (firstRow (shelf .row) bs) s next
-      → lowerOf (get shelves S (s .row)) (onRow (s .row)) d (record { 0 = at-new }) ≡ shelf .says (s .row) lower next
+      → lowerOf (get shelves S (s .row)) (onRow (s .row)) d (record { 0 = new-item-row }) ≡ shelf .says (s .row) lower next
   unfolding lowerOf withY withHeight withShelfPrev withFirstItem withFirstFree withEmpty isEmpty
   lower-says c = rw c (rw (plus16-is (s .y) d (omega arith), minus16-is (s .depth) d within (omega arith)))
 
+  -- the upper part keeps the row, the lower one follows in the new row, and the next shelf names that row as the one before it
   new-chain : Chain shelf (get shelves S′) noRow (backOnto bs (upper ∷ lower ∷ ys))
   unfolding withShelfPrev
   new-chain =
-      let n : s .row ≢ on = ne-new (s .row) s-in in
-      let n′ : on ≢ s .row = λ e. n (sym e) in
-      let nn : on ≢ next = ne-first shelf ys on (some on (sf .there)) (λ m. sf .out (serves on (inr (List·Memᴰ·tail m)))) in
+      let n : s .row ≢ new-row = ne-new (s .row) s-in in
+      let n′ : new-row ≢ s .row = λ e. n (sym e) in
+      let nn : new-row ≢ next = ne-first shelf ys new-row (some new-row (unserved-shelf .there)) (λ m. unserved-shelf .out (serves new-row (inr (List·Memᴰ·tail m)))) in
       chain-insert shelf (get shelves S) (get shelves S′) bs s upper lower ys refl (rw are at (sound .shelf-rows .serving-once))
       (λ r m. shelf-some st a stands r (sound .shelf-rows .serving-used r (rw are m)))
-      (withShelfPrev (onRow on)) (λ x m. refl)
-      (λ r m x y. let c : r ≢ on = ne-new r (rw are m) in simp reads)
-      (λ r m x e. let c : r ≢ on = ne-new r (rw are m) in rw (← e) (simp (reads, shelf-there st a stands r (rw are m))))
-      (λ c b. (simp (reads, shelf-there st a stands (s .row) s-in) (upper-says c), simp (reads, lt-ltb on (rows shelves S) (sf .there)) (lower-says c)))
+      (withShelfPrev (onRow new-row)) (λ x m. refl)
+      (λ r m x y. let c : r ≢ new-row = ne-new r (rw are m) in simp reads)
+      (λ r m x e. let c : r ≢ new-row = ne-new r (rw are m) in rw (← e) (simp (reads, shelf-there st a stands r (rw are m))))
+      (λ c b. (simp (reads, shelf-there st a stands (s .row) s-in) (upper-says c), simp (reads, lt-ltb new-row (rows shelves S) (unserved-shelf .there)) (lower-says c)))
       (rw are at (stored .shelf-chain))
 
-  new-freed-shelves : Chain freedShelf (get shelves S′) noRow (taken ps .freed)
+  new-freed-shelves : Chain freedShelf (get shelves S′) noRow (taken shelf-pool .freed)
   new-freed-shelves =
-      chain-frame freedShelf (get shelves S) (get shelves S′) noRow (taken ps .freed)
+      chain-frame freedShelf (get shelves S) (get shelves S′) noRow (taken shelf-pool .freed)
       (λ r m.
-      let k : (r ∈ ps .freed) × (r ≢ on) = (rw self at (sf .kept r m .0), sf .kept r m .1) in
-      let x : (r < ps .used) × (¬ (r ∈ shelfRows (a .shelves))) = sound .shelf-rows .freed-exactly r .0 (k .0) in
-      let p : r ≢ on = k .1 in
-      let q : r ≢ s .row = λ e. x .1 (Memᴰ·cast e s-in) in
-      let w : r ≢ next = ne-first shelf ys r (shelf-some st a stands r (x .0)) (λ z. x .1 (serves r (inr (List·Memᴰ·tail z)))) in
+      let still : (r ∈ shelf-pool .freed) × (r ≢ new-row) = (rw self at (unserved-shelf .kept r m .0), unserved-shelf .kept r m .1) in
+      let idle : (r < shelf-pool .used) × (¬ (r ∈ shelfRows (a .shelves))) = sound .shelf-rows .freed-exactly r .0 (still .0) in
+      let p : r ≢ new-row = still .1 in
+      let q : r ≢ s .row = λ e. idle .1 (Memᴰ·cast e s-in) in
+      let w : r ≢ next = ne-first shelf ys r (shelf-some st a stands r (idle .0)) (λ z. idle .1 (serves r (inr (List·Memᴰ·tail z)))) in
       simp reads)
-      (taken-chain shelfRow (λ r n. freedShelfRow (record { 0 = n })) (get shelves S) ps (stored .freed-shelves))
+      (taken-chain shelfRow (λ r n. freedShelfRow (record { 0 = n })) (get shelves S) shelf-pool (stored .freed-shelves))
 
   -- ---- the items and the freed items
 
-  fr : Fresh freedRow (rows items I) (allItemRows (a .shelves)) pi
-  fr = item-is-fresh st a stands shelf-left item-left
+  unserved-item : Fresh freedRow (rows items I) (allItemRows (a .shelves)) item-pool
+  unserved-item = item-is-fresh st a stands shelf-left item-left
 
-  item-same : (r : ℕ) → r ≢ at-new → get items I′ r ≡ get items I r
+  item-same : (r : ℕ) → r ≢ new-item-row → get items I′ r ≡ get items I r
   item-same r n = simp reads
 
-  item-there : get items I′ at-new ≡ lone-row
-  item-there = simp (reads, lt-ltb at-new (rows items I) (fr .there))
+  item-there : get items I′ new-item-row ≡ lone-row
+  item-there = simp (reads, lt-ltb new-item-row (rows items I) (unserved-item .there))
 
   held : Each (Holds I) bs × Each (Holds I) (s ∷ ys)
   held = each-split (Holds I) bs (s ∷ ys) (rw are at (stored .shelf-items))
@@ -192,8 +193,27 @@ module _ (st : State) (a : Atlas) (bs : List Shelf) (s : Shelf) (ys : List Shelf
   listings : Each FreeListed bs × Each FreeListed (s ∷ ys)
   listings = each-split FreeListed bs (s ∷ ys) (rw are at (sound .free-listed))
 
+  -- the shelves before it, itself, and those after it
+  held-before : Each (Holds I) bs
+  held-before = held .0
+
+  held-here : Holds I s
+  held-here = held .1 .0
+
+  held-after : Each (Holds I) ys
+  held-after = held .1 .1
+
+  listed-before : Each FreeListed bs
+  listed-before = listings .0
+
+  listed-here : FreeListed s
+  listed-here = listings .1 .0
+
+  listed-after : Each FreeListed ys
+  listed-after = listings .1 .1
+
   serving-same : (r : ℕ) → (r ∈ allItemRows bs) ⊎ (r ∈ allItemRows (s ∷ ys)) → get items I′ r ≡ get items I r
-  serving-same r o = item-same r (λ e. fr .out (Memᴰ·cast (sym e) (rw are (in-onto (λ (q : Shelf). itemRows (q .items)) r bs (s ∷ ys) o))))
+  serving-same r o = item-same r (λ e. unserved-item .out (Memᴰ·cast (sym e) (rw are (in-onto (λ (q : Shelf). itemRows (q .items)) r bs (s ∷ ys) o))))
 
   lower-holds : Holds I′ lower
   unfolding bodyLone
@@ -205,19 +225,20 @@ module _ (st : State) (a : Atlas) (bs : List Shelf) (s : Shelf) (ys : List Shelf
 
   new-items : Each (Holds I′) (backOnto bs (upper ∷ lower ∷ ys))
   new-items =
-      let o : Holds I′ s = holds-frame I I′ s (listings .1 .0) (λ r m. serving-same r (inr (Memᴰ·append-left (allItemRows ys) m))) (held .1 .0) in
-      each-join (Holds I′) bs (upper ∷ lower ∷ ys) (each-holds I I′ bs (listings .0) (λ r m. serving-same r (inl m)) (held .0)) (
+      let o : Holds I′ s = holds-frame I I′ s listed-here (λ r m. serving-same r (inr (Memᴰ·append-left (allItemRows ys) m))) held-here in
+      each-join (Holds I′) bs (upper ∷ lower ∷ ys) (each-holds I I′ bs listed-before (λ r m. serving-same r (inl m)) held-before) (
         record { in-order = o .in-order; free-order = o .free-order; live-unlinked = o .live-unlinked },
-        (lower-holds, each-holds I I′ ys (listings .1 .1) (λ r m. serving-same r (inr (Memᴰ·append-right (itemRows (s .items)) m))) (held .1 .1)),
+        (lower-holds, each-holds I I′ ys listed-after (λ r m. serving-same r (inr (Memᴰ·append-right (itemRows (s .items)) m))) held-after),
       )
 
-  new-freed-items : Chain freedItem (get items I′) noRow (taken pi .freed)
+  new-freed-items : Chain freedItem (get items I′) noRow (taken item-pool .freed)
   new-freed-items =
-      chain-frame freedItem (get items I) (get items I′) noRow (taken pi .freed) (λ r m. item-same r (fr .kept r m .1))
-      (taken-chain freedRow (λ f n. freedItemRow (record { 0 = n }) (f .generation)) (get items I) pi (stored .freed-items))
+      chain-frame freedItem (get items I) (get items I′) noRow (taken item-pool .freed) (λ r m. item-same r (unserved-item .kept r m .1))
+      (taken-chain freedRow (λ f n. freedItemRow (record { 0 = n }) (f .generation)) (get items I) item-pool (stored .freed-items))
 
   -- ---- the split atlas
 
+  -- both parts are empty, so as much is occupied as before
   new-occupied : h .occupied ≡ occupied (backOnto bs (upper ∷ lower ∷ ys))
   unfolding headerOf occupied liveArea
   new-occupied =
@@ -228,9 +249,9 @@ module _ (st : State) (a : Atlas) (bs : List Shelf) (s : Shelf) (ys : List Shelf
         occupied-onto bs (s ∷ ys),
         occupied-onto bs (upper ∷ lower ∷ ys),
         ap (liveArea (s .depth)) lone,
-        none j (s .depth) is-free,
+        none its-item (s .depth) is-free,
         ap (liveArea d) lone,
-        none j d is-free,
+        none its-item d is-free,
       )
 
   new-lies : Stores h′ S′ I′ split-atlas
@@ -243,40 +264,40 @@ module _ (st : State) (a : Atlas) (bs : List Shelf) (s : Shelf) (ys : List Shelf
     freed-items = new-freed-items;
   }
 
-  new-shelf-rows : Shared (taken ps .used) (shelfRows (backOnto bs (upper ∷ lower ∷ ys))) (taken ps .freed)
+  new-shelf-rows : Shared (taken shelf-pool .used) (shelfRows (backOnto bs (upper ∷ lower ∷ ys))) (taken shelf-pool .freed)
   new-shelf-rows =
-      let (once, to, from) = rows-insert (λ (q : Shelf). q .row ∷ []) bs s upper lower ys on refl refl (rw are at (sound .shelf-rows .serving-once)) (rw are at (sf .out)) in
-      shelf-shared (shelfRows (backOnto bs (s ∷ ys))) (shelfRows (backOnto bs (upper ∷ lower ∷ ys))) ps (rw are at (sound .shelf-rows)) once to from
+      let (once, to, from) = rows-insert (λ (q : Shelf). q .row ∷ []) bs s upper lower ys new-row refl refl (rw are at (sound .shelf-rows .serving-once)) (rw are at (unserved-shelf .out)) in
+      shelf-shared (shelfRows (backOnto bs (s ∷ ys))) (shelfRows (backOnto bs (upper ∷ lower ∷ ys))) shelf-pool (rw are at (sound .shelf-rows)) once to from
 
-  new-item-rows : Shared (taken pi .used) (allItemRows (backOnto bs (upper ∷ lower ∷ ys))) (freedRows (taken pi .freed))
+  new-item-rows : Shared (taken item-pool .used) (allItemRows (backOnto bs (upper ∷ lower ∷ ys))) (freedRows (taken item-pool .freed))
   new-item-rows =
-      let (once, to, from) = rows-insert (λ (q : Shelf). itemRows (q .items)) bs s upper lower ys at-new refl refl (rw are at (sound .item-rows .serving-once)) (rw are at (fr .out)) in
-      taken-shared freedRow (allItemRows (backOnto bs (s ∷ ys))) (allItemRows (backOnto bs (upper ∷ lower ∷ ys))) pi (rw are at (sound .item-rows)) once to from
+      let (once, to, from) = rows-insert (λ (q : Shelf). itemRows (q .items)) bs s upper lower ys new-item-row refl refl (rw are at (sound .item-rows .serving-once)) (rw are at (unserved-item .out)) in
+      taken-shared freedRow (allItemRows (backOnto bs (s ∷ ys))) (allItemRows (backOnto bs (upper ∷ lower ∷ ys))) item-pool (rw are at (sound .item-rows)) once to from
 
   new-sound : Sound (roomIn S′ I′) split-atlas
   unfolding roomIn
   new-sound = record {
-    in-room = record { shelves = simp (rows-change, rows-put) (sf .in-room); items = simp rows-put (fr .in-room) };
-    free-listed = each-join FreeListed bs (upper ∷ lower ∷ ys) (listings .0)
-        (record { once = listings .1 .0 .once; only = listings .1 .0 .only }, (record { once = (λ m. List·Memᴰ·not-nil m, tt); only = λ r m. m }, listings .1 .1));
+    in-room = record { shelves = simp (rows-change, rows-put) (unserved-shelf .in-room); items = simp rows-put (unserved-item .in-room) };
+    free-listed = each-join FreeListed bs (upper ∷ lower ∷ ys) listed-before
+        (record { once = listed-here .once; only = listed-here .only }, (record { once = (λ m. List·Memᴰ·not-nil m, tt); only = λ r m. m }, listed-after));
     shelf-rows = new-shelf-rows;
     item-rows = new-item-rows;
   }
 
   -- ---- nothing changes past the rows that are used then
 
-  shelves-stay : Past shelves (taken ps .used) S S′
+  shelves-stay : Past shelves (taken shelf-pool .used) S S′
   shelves-stay =
-      let served : (r : ℕ) → r ∈ shelfRows (upper ∷ lower ∷ ys) → r < taken ps .used = λ r m. new-shelf-rows .serving-used r (in-onto (λ (q : Shelf). q .row ∷ []) r bs (upper ∷ lower ∷ ys) (inr m)) in
+      let served : (r : ℕ) → r ∈ shelfRows (upper ∷ lower ∷ ys) → r < taken shelf-pool .used = λ r m. new-shelf-rows .serving-used r (in-onto (λ (q : Shelf). q .row ∷ []) r bs (upper ∷ lower ∷ ys) (inr m)) in
       past-change shelves _ (past-change shelves _ (past-put shelves _ (past-same shelves _ S)
-      on _ (served on (List·Memᴰ·tail (List·Memᴰ·head refl))))
+      new-row _ (served new-row (List·Memᴰ·tail (List·Memᴰ·head refl))))
       (s .row) _ (inl (served (s .row) (List·Memᴰ·head refl))))
       next _ (first-used _ ys (λ r m. served r (List·Memᴰ·tail (List·Memᴰ·tail m))))
 
-  items-stay : Past items (taken pi .used) I I′
+  items-stay : Past items (taken item-pool .used) I I′
   items-stay =
-      past-put items _ (past-same items _ I) at-new _
-      (new-item-rows .serving-used at-new (in-onto (λ (q : Shelf). itemRows (q .items)) at-new bs (upper ∷ lower ∷ ys) (inr (Memᴰ·append-right (itemRows (s .items)) (List·Memᴰ·head refl)))))
+      past-put items _ (past-same items _ I) new-item-row _
+      (new-item-rows .serving-used new-item-row (in-onto (λ (q : Shelf). itemRows (q .items)) new-item-row bs (upper ∷ lower ∷ ys) (inr (Memᴰ·append-right (itemRows (s .items)) (List·Memᴰ·head refl)))))
 
   pub split-leads : Leads st (splitShelf st (onRow (s .row)) d)
       (record { limits = a .limits; shelves = backOnto bs (upperPart d s ∷ lowerPart (a .limits) (a .rows) d s ∷ ys); rows = itemTaken (shelfTaken (a .rows)) })
