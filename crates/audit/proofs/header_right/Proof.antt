@@ -12,14 +12,16 @@ few-items c = refuted (λ o. omega (arith, c .before .before .item-capacity .ens
 
 within : tie.Need-returns-3
 within c =
-    let w = c .within-limits .ensures in
+    let limits-told = c .within-limits .ensures in
+    let items-tested = c .before in
+    let shelves-tested = items-tested .before .before .before in
     record {
       sound = λ e. record {
-        limits = w .sound e;
-        shelves-fit = omega (arith, c .before .before .before .before .before .before .shelf-capacity .ensures, c .before .before .before .before .if1 .left);
-        items-fit = omega (arith, c .before .before .before .item-capacity .ensures, c .before .if2 .left);
+        limits = limits-told .sound e;
+        shelves-fit = omega (arith, shelves-tested .before .before .shelf-capacity .ensures, shelves-tested .if1 .left);
+        items-fit = omega (arith, items-tested .before .before .item-capacity .ensures, items-tested .if2 .left);
       };
-      complete = λ o. w .complete (o .limits);
+      complete = λ o. limits-told .complete (o .limits);
     }
 
 pub header-right-spec : {M : Type 1} → statement M

@@ -12,14 +12,16 @@ few-shelf-rows c = refuted (λ o. omega (arith, c .before .shelf-capacity .ensur
 
 item-rows : tie.Need-returns-3
 item-rows c =
-    let n = c .before .before .before .columns .ensures in
+    let at-columns = c .before .before .before in
+    let rule1-tested = at-columns .before in
+    let count = at-columns .columns .ensures in
     record {
       sound = λ e. record {
-        rule1 = allowed (c .before .before .before .before .before .header-right .ensures) (c .before .before .before .before .if1 .left);
-        shelf-room = omega (arith, n, c .before .before .shelf-capacity .ensures, c .before .if2 .left);
-        item-room = omega (arith, n, c .item-capacity .ensures, leb-true (c .before .before .before .columns .result) (c .item-capacity .result) e);
+        rule1 = allowed (rule1-tested .before .header-right .ensures) (rule1-tested .if1 .left);
+        shelf-room = omega (arith, count, c .before .before .shelf-capacity .ensures, c .before .if2 .left);
+        item-room = omega (arith, count, c .item-capacity .ensures, leb-true (at-columns .columns .result) (c .item-capacity .result) e);
       };
-      complete = λ o. le-leb (c .before .before .before .columns .result) (c .item-capacity .result) (omega (arith, n, c .item-capacity .ensures, o .item-room));
+      complete = λ o. le-leb (at-columns .columns .result) (c .item-capacity .result) (omega (arith, count, c .item-capacity .ensures, o .item-room));
     }
 
 pub passes-for-clear-spec : {M : Type 1} → statement M

@@ -66,7 +66,7 @@ all-items-spec =
     (λ c. omega arith)
     area-fits
     areas-fit
-    (λ c. omega (arith, c .before .before .before .before .before .before .before .before .before .before .before .before .before .before .before .loop-test .taken))
-    (λ c. omega (arith, c .before .before .before .before .before .before .before .before .before .before .before .before .before .before .before .loop-test .taken))
+    (λ c. let counted = c .before .before .before .before .before .before .before .before .before .before .before .before in let test = counted .before .before .before in omega (arith, test .loop-test .taken))
+    (λ c. let counted = c .before .before .before .before .before .before .before .before .before .before .before .before in let test = counted .before .before .before in omega (arith, test .loop-test .taken))
     again
     (λ c. totals-out (c .before .loop .inv) (omega arith)))

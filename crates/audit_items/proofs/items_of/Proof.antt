@@ -13,59 +13,59 @@ Inv-loop h items on s prev₀ x₀ edge₀ free₀ count₀ gap₀ stray₀ cur�
 abbrev μ-loop : tie.MeasureT-loop
 μ-loop h items on s prev₀ x₀ edge₀ free₀ count₀ gap₀ stray₀ cur₀ prev x edge free count gap stray cur = 131070 - count
 
--- ---- in the loop: refusals, then ways to the next item. `p` is the place after the call of `item_right`, `q` the one after its
--- test, `live` the one after that of its flag
+-- ---- in the loop: refusals, then ways to the next item. `judged` is the place after the call of `item_right`, `passed` the one after its
+-- test, `live` the one after that of its flag; `turn` is the loop as it stands, where `in-use` says that the row is, and `read` its item
 
 misplaced : tie.Need-returns Inv-loop μ-loop
 misplaced c =
-    let p = c .before in
-    let l = p .before .before .before .before .loop in
-    let u = p .before .before .if1 .taken in
-    let i = p .before .item-there in
-    shelf-wrong (item-misplaced (l .inv) u _ (i .ensures) (denied (p .item-right .ensures) (c .if2 .taken)))
+    let judged = c .before in
+    let turn = judged .before .before .before .before .loop in
+    let in-use = judged .before .before .if1 .taken in
+    let read = judged .before .item-there in
+    shelf-wrong (item-misplaced (turn .inv) in-use _ (read .ensures) (denied (judged .item-right .ensures) (c .if2 .taken)))
 
 free-after-free : tie.Need-returns-2 Inv-loop μ-loop
 free-after-free c =
-    let q = c .before .before .before .before in
-    let p = q .before in
-    let l = p .before .before .before .before .loop in
-    let u = p .before .before .if1 .taken in
-    let i = p .before .item-there in
-    let right = allowed (p .item-right .ensures) (q .if2 .left) in
-    shelf-wrong (two-free (l .inv) u _ (i .ensures) right (c .before .if3 .left) (c .if5 .taken))
+    let passed = c .before .before .before .before in
+    let judged = passed .before in
+    let turn = judged .before .before .before .before .loop in
+    let in-use = judged .before .before .if1 .taken in
+    let read = judged .before .item-there in
+    let right = allowed (judged .item-right .ensures) (passed .if2 .left) in
+    shelf-wrong (two-free (turn .inv) in-use _ (read .ensures) right (c .before .if3 .left) (c .if5 .taken))
 
 past-strayed : tie.Need-loop-again Inv-loop μ-loop
 past-strayed c =
     let live = c .before .before .before in
-    let q = live .before .before .before in
-    let p = q .before in
-    let l = p .before .before .before .before .loop in
-    let u = p .before .before .if1 .taken in
-    let i = p .before .item-there in
-    let right = allowed (p .item-right .ensures) (q .if2 .left) in
-    past-live (l .inv) u _ (i .ensures) right (omega (arith, i .ok)) _ (live .if3 .taken) (omega (arith, c .strayed .ensures))
+    let passed = live .before .before .before in
+    let judged = passed .before in
+    let turn = judged .before .before .before .before .loop in
+    let in-use = judged .before .before .if1 .taken in
+    let read = judged .before .item-there in
+    let right = allowed (judged .item-right .ensures) (passed .if2 .left) in
+    past-live (turn .inv) in-use _ (read .ensures) right (omega (arith, read .ok)) _ (live .if3 .taken) (omega (arith, c .strayed .ensures))
 
 past-unlinked : tie.Need-loop-again-2 Inv-loop μ-loop
 past-unlinked c =
     let live = c .before .before in
-    let q = live .before .before .before in
-    let p = q .before in
-    let l = p .before .before .before .before .loop in
-    let u = p .before .before .if1 .taken in
-    let i = p .before .item-there in
-    let right = allowed (p .item-right .ensures) (q .if2 .left) in
+    let passed = live .before .before .before in
+    let judged = passed .before in
+    let turn = judged .before .before .before .before .loop in
+    let in-use = judged .before .before .if1 .taken in
+    let read = judged .before .item-there in
+    let right = allowed (judged .item-right .ensures) (passed .if2 .left) in
     let none = allowed (c .before .unlinked .ensures) (c .if4 .left) in
-    past-live (l .inv) u _ (i .ensures) right (omega (arith, i .ok)) _ (live .if3 .taken) (omega (arith, none))
+    past-live (turn .inv) in-use _ (read .ensures) right (omega (arith, read .ok)) _ (live .if3 .taken) (omega (arith, none))
 
 past-gap : tie.Need-loop-again-3 Inv-loop μ-loop
 past-gap c =
-    let q = c .before .before .before .before .before in
-    let p = q .before in
-    let l = p .before .before .before .before .loop in
-    let u = p .before .before .if1 .taken in
-    let i = p .before .item-there in
-    let right = allowed (p .item-right .ensures) (q .if2 .left) in
-    past-free (l .inv) u _ (i .ensures) right (omega (arith, i .ok)) (c .before .before .if3 .left) (c .before .if5 .left)
+    let passed = c .before .before .before .before .before in
+    let judged = passed .before in
+    let turn = judged .before .before .before .before .loop in
+    let in-use = judged .before .before .if1 .taken in
+    let read = judged .before .item-there in
+    let right = allowed (judged .item-right .ensures) (passed .if2 .left) in
+    past-free (turn .inv) in-use _ (read .ensures) right (omega (arith, read .ok)) (c .before .before .if3 .left) (c .before .if5 .left)
 
 -- ---- after the loop
 

@@ -13,22 +13,24 @@ abbrev μ-loop : tie.MeasureT-loop
 
 no-steps-left : tie.Need-returns Inv-loop μ-loop
 no-steps-left c =
-    let l = c .before .before .before .loop in
-    free-wrong (no-steps (l .inv) (there (l .inv) (c .before .if1 .taken)) (c .if2 .taken))
+    let turn = c .before .before .before .loop in
+    free-wrong (no-steps (turn .inv) (there (turn .inv) (c .before .if1 .taken)) (c .if2 .taken))
 
 refused-row : tie.Need-returns-2 Inv-loop μ-loop
 refused-row c =
-    let l = c .before .before .before .before .before .before .loop in
-    let u = c .before .before .before .before .if1 .taken in
-    let r = c .before .before .item-there in
-    free-wrong (wrong-row (l .inv) (there (l .inv) u) _ (r .ensures) (denied (c .before .free-item .ensures) (c .if3 .taken)))
+    let used = c .before .before .before .before in
+    let turn = used .before .before .loop in
+    let in-use = used .if1 .taken in
+    let read = c .before .before .item-there in
+    free-wrong (wrong-row (turn .inv) (there (turn .inv) in-use) _ (read .ensures) (denied (c .before .free-item .ensures) (c .if3 .taken)))
 
 again : tie.Need-loop-again Inv-loop μ-loop
 again c =
-    let l = c .before .before .before .before .before .before .loop in
-    let u = c .before .before .before .before .if1 .taken in
-    let r = c .before .before .item-there in
-    past-row (l .inv) (there (l .inv) u) _ (r .ensures) (omega arith) u (allowed (c .before .free-item .ensures) (c .if3 .left))
+    let used = c .before .before .before .before in
+    let turn = used .before .before .loop in
+    let in-use = used .if1 .taken in
+    let read = c .before .before .item-there in
+    past-row (turn .inv) (there (turn .inv) in-use) _ (read .ensures) (omega arith) in-use (allowed (c .before .free-item .ensures) (c .if3 .left))
 
 unused-row : tie.Need-returns-3 Inv-loop μ-loop
 unused-row c = free-wrong (no-row (c .before .before .before .loop .inv) (c .if4 .taken) (omega arith))

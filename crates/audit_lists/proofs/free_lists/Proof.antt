@@ -11,19 +11,21 @@ Inv-loop h shelves items count₀ cur₀ fuel₀ count cur fuel = AtLists h shel
 abbrev μ-loop : tie.MeasureT-loop
 μ-loop h shelves items count₀ cur₀ fuel₀ count cur fuel = fuel
 
+-- `some-row` is the place after the test for the end of the chain, `read` the one after the shelf is read, `counted` the one after its list is counted
+
 refused-list : tie.Need-returns-2 Inv-loop μ-loop
 refused-list c =
-    let l = c .before .before .before .before .before .before .loop in
-    let s = c .before .before .before .get-shelf in
-    let of = c .before .before .free-list in
-    refused (wrong-list (l .inv) (c .before .before .before .before .if1 .left) (omega arith) _ (s .ensures) _ (of .ensures) (c .if2 .taken))
+    let counted = c .before .before in
+    let read = counted .before in
+    let some-row = read .before in
+    refused (wrong-list (some-row .before .before .loop .inv) (some-row .if1 .left) (omega arith) _ (read .get-shelf .ensures) _ (counted .free-list .ensures) (c .if2 .taken))
 
 again : tie.Need-loop-again Inv-loop μ-loop
 again c =
-    let l = c .before .before .before .before .before .before .before .loop in
-    let s = c .before .before .before .before .get-shelf in
-    let of = c .before .before .before .free-list in
-    past-list (l .inv) (c .before .before .before .before .before .if1 .left) (omega arith) _ (s .ensures) _ (of .ensures) (c .before .if2 .left)
+    let counted = c .before .before .before in
+    let read = counted .before in
+    let some-row = read .before in
+    past-list (some-row .before .before .loop .inv) (some-row .if1 .left) (omega arith) _ (read .get-shelf .ensures) _ (counted .free-list .ensures) (c .before .if2 .left)
 
 pub free-lists-spec : {M : Type 1} → statement M
 free-lists-spec =

@@ -8,8 +8,8 @@ use Rattle.audit_shelves.proofs.shelf_right.Tie as tie
 wrong-back : tie.Need-returns
 wrong-back c = refuted (λ o. omega arith)
 
-mul-if2 : tie.Need-mul-if2
-mul-if2 c = let a = c .before .before .before .before .before .args in omega (arith, product-fits (a .column) (a .h .limits .«shelf_width») (omega arith) (omega arith))
+product-in-range : tie.Need-mul-if2
+product-in-range c = let a = c .before .before .before .before .before .args in omega (arith, product-fits (a .column) (a .h .limits .«shelf_width») (omega arith) (omega arith))
 
 wrong-column : tie.Need-returns-2
 wrong-column c = refuted (λ o. omega (arith, o .at-column, c .if2 .taken))
@@ -26,21 +26,22 @@ too-deep c = refuted (λ o. omega arith)
 wrong-flag : tie.Need-returns-6
 wrong-flag c = refuted (λ o. c .if6 .taken (o .flag-right ∙ sym (c .before .before .empty-flag .ensures)))
 
+-- the places after the tests, from the last back to the first
 after-empty : tie.Need-returns-7
 after-empty c =
-    let e5 = c .before .before .before .before .before in
-    let e4 = e5 .before .before .before in
-    let e3 = e4 .before .before in
-    let e2 = e3 .before .before in
-    let e1 = e2 .before .before .before in
+    let end-tested = c .before .before .before .before .before in
+    let height-tested = end-tested .before .before .before in
+    let y-tested = height-tested .before .before in
+    let x-tested = y-tested .before .before in
+    let prev-tested = x-tested .before .before .before in
     let two = apart-if _ _ (c .before .if7 .taken) in
     record {
       sound = λ e. record {
-        back = e1 .if1 .left;
-        at-column = e2 .if2 .left;
-        at-depth = e3 .if3 .left;
-        some-depth = omega (arith, e4 .if4 .left);
-        in-column = omega (arith, e5 .if5 .left);
+        back = prev-tested .if1 .left;
+        at-column = x-tested .if2 .left;
+        at-depth = y-tested .if3 .left;
+        some-depth = omega (arith, height-tested .if4 .left);
+        in-column = omega (arith, end-tested .if5 .left);
         flag-right = c .before .before .if6 .left ∙ c .before .before .before .before .empty-flag .ensures;
         apart = two .sound e;
       };
@@ -49,18 +50,18 @@ after-empty c =
 
 after-none : tie.Need-returns-8
 after-none c =
-    let e5 = c .before .before .before .before in
-    let e4 = e5 .before .before .before in
-    let e3 = e4 .before .before in
-    let e2 = e3 .before .before in
-    let e1 = e2 .before .before .before in
+    let end-tested = c .before .before .before .before in
+    let height-tested = end-tested .before .before .before in
+    let y-tested = height-tested .before .before in
+    let x-tested = y-tested .before .before in
+    let prev-tested = x-tested .before .before .before in
     record {
       sound = λ e. record {
-        back = e1 .if1 .left;
-        at-column = e2 .if2 .left;
-        at-depth = e3 .if3 .left;
-        some-depth = omega (arith, e4 .if4 .left);
-        in-column = omega (arith, e5 .if5 .left);
+        back = prev-tested .if1 .left;
+        at-column = x-tested .if2 .left;
+        at-depth = y-tested .if3 .left;
+        some-depth = omega (arith, height-tested .if4 .left);
+        in-column = omega (arith, end-tested .if5 .left);
         flag-right = c .before .if6 .left ∙ c .before .before .before .empty-flag .ensures;
         apart = apart-as _ _ (c .if7 .left);
       };
@@ -74,7 +75,7 @@ shelf-right-spec =
     wrong-back
     (λ c. search needs)
     (λ c. search needs)
-    mul-if2
+    product-in-range
     wrong-column
     wrong-depth
     no-depth

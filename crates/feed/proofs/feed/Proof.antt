@@ -1,4 +1,4 @@
--- What is taken ends no line, or one, which is answered as it is kept. Assumes nothing.
+-- `feed`: what is taken ends no line, or one, which is answered as it is kept. Assumes nothing.
 use Rattle.numbers.specs.Library.{_-_, arith, needs}
 use Rattle.texts.specs.Put.{put-nothing}
 use Rattle.feed.proofs.Longest.{longest}
@@ -6,8 +6,8 @@ use Rattle.feed.proofs.Parts.{no-line, one-line}
 use Rattle.feed.proofs.feed.Statement.{statement}
 use Rattle.feed.proofs.feed.Tie as tie
 
-returns : tie.Need-returns
-returns c =
+line-answered : tie.Need-returns
+line-answered c =
     let at-step = c .before .before .before .before .before .before .before in
     let at-if1 = at-step .before .before .before .before .before .before in
     let at-take-line = at-if1 .before .before .before in
@@ -23,8 +23,8 @@ returns c =
       some = λ h. takes .some (at-if1 .if1 .taken);
     }
 
-returns-2 : tie.Need-returns-2
-returns-2 c =
+no-line-ended : tie.Need-returns-2
+no-line-ended c =
     let at-take-line = c .before .before .before in
     let takes = at-take-line .take-line .ensures in
     let all = takes .all (c .if1 .left) in
@@ -51,6 +51,6 @@ feed-spec =
     (λ c. search needs)
     (λ c. search needs)
     (λ c. search needs)
-    returns
+    line-answered
     (λ c. search needs)
-    returns-2)
+    no-line-ended)

@@ -1,4 +1,4 @@
--- The loop passes bytes that end no line, and keeps them as far as there is room. Assumes nothing.
+-- `take_line`: the loop passes bytes that end no line, and keeps them as far as there is room. Assumes nothing.
 use Rattle.numbers.specs.Library.{_≤_, _-_, arith, _≡_, refl, sym, _∙_, false≢true, [], length, take, length-take, length-set, take-all, needs}
 use Rattle.input.specs.Lines.{ended, left}
 use Rattle.input.specs.Kept.{short, endedShort}
@@ -20,56 +20,56 @@ unfolding endedShort ended left short
 loop-holds c = let l = c .args .line .now in (refl, take-all 81 (take (c .args .have0) l) (omega (arith, length-take (c .args .have0) l)), c .pre .1, omega arith, c .pre .0)
 
 -- a newline
-returns : tie.Need-returns Inv-loop μ-loop
-returns c =
+at-newline : tie.Need-returns Inv-loop μ-loop
+at-newline c =
     let at-loop = c .before .before .before in
     let a = at-loop .before .args in
-    let l = at-loop .loop in
-    let (none, formed, room, within, size) = l .inv in
-    let h = c .before .before .loop-test .taken in
+    let turn = at-loop .loop in
+    let (none, formed, room, within, size) = turn .inv in
+    let more = c .before .before .loop-test .taken in
     record {
       room = room;
       within = omega arith;
-      lines = newline-ends (take (a .have0) (a .line .now)) (a .piece .now) (l .taken) (take (l .have) (l .line)) h none formed (c .if1 .taken);
-      formed = newline-left (take (a .have0) (a .line .now)) (a .piece .now) (l .taken) (take (l .have) (l .line)) h none formed (c .if1 .taken);
+      lines = newline-ends (take (a .have0) (a .line .now)) (a .piece .now) (turn .taken) (take (turn .have) (turn .line)) more none formed (c .if1 .taken);
+      formed = newline-left (take (a .have0) (a .line .now)) (a .piece .now) (turn .taken) (take (turn .have) (turn .line)) more none formed (c .if1 .taken);
       all = λ e. absurd (false≢true (sym e));
       some = λ e. omega arith;
     }
 
 -- another byte, where there is room for it, and where there is none
-loop-again : tie.Need-loop-again Inv-loop μ-loop
-loop-again c =
+byte-kept : tie.Need-loop-again Inv-loop μ-loop
+byte-kept c =
     let at-loop = c .before .before .before .before in
     let a = at-loop .before .args in
-    let l = at-loop .loop in
-    let (none, formed, room, within, size) = l .inv in
-    let h = c .before .before .before .loop-test .taken in (
-      byte-ends (take (a .have0) (a .line .now)) (a .piece .now) (l .taken) (take (l .have) (l .line)) h none formed (c .before .if1 .left),
-      byte-left (take (a .have0) (a .line .now)) (a .piece .now) (l .taken) (take (l .have) (l .line)) h none formed (c .before .if1 .left)
-          ∙ kept-byte (l .line) (l .have) _ size (omega arith),
+    let turn = at-loop .loop in
+    let (none, formed, room, within, size) = turn .inv in
+    let more = c .before .before .before .loop-test .taken in (
+      byte-ends (take (a .have0) (a .line .now)) (a .piece .now) (turn .taken) (take (turn .have) (turn .line)) more none formed (c .before .if1 .left),
+      byte-left (take (a .have0) (a .line .now)) (a .piece .now) (turn .taken) (take (turn .have) (turn .line)) more none formed (c .before .if1 .left)
+          ∙ kept-byte (turn .line) (turn .have) _ size (omega arith),
       omega arith,
       omega arith,
       simp length-set size,
     )
 
-loop-again-2 : tie.Need-loop-again-2 Inv-loop μ-loop
-loop-again-2 c =
+byte-dropped : tie.Need-loop-again-2 Inv-loop μ-loop
+byte-dropped c =
     let at-loop = c .before .before .before .before in
     let a = at-loop .before .args in
-    let l = at-loop .loop in
-    let (none, formed, room, within, size) = l .inv in
-    let h = c .before .before .before .loop-test .taken in (
-      byte-ends (take (a .have0) (a .line .now)) (a .piece .now) (l .taken) (take (l .have) (l .line)) h none formed (c .before .if1 .left),
-      byte-left (take (a .have0) (a .line .now)) (a .piece .now) (l .taken) (take (l .have) (l .line)) h none formed (c .before .if1 .left)
-          ∙ kept-full (l .line) (l .have) _ size (omega arith),
+    let turn = at-loop .loop in
+    let (none, formed, room, within, size) = turn .inv in
+    let more = c .before .before .before .loop-test .taken in (
+      byte-ends (take (a .have0) (a .line .now)) (a .piece .now) (turn .taken) (take (turn .have) (turn .line)) more none formed (c .before .if1 .left),
+      byte-left (take (a .have0) (a .line .now)) (a .piece .now) (turn .taken) (take (turn .have) (turn .line)) more none formed (c .before .if1 .left)
+          ∙ kept-full (turn .line) (turn .have) _ size (omega arith),
       room,
       omega arith,
       size,
     )
 
 -- the end of the piece
-returns-2 : tie.Need-returns-2 Inv-loop μ-loop
-returns-2 c =
+piece-ended : tie.Need-returns-2 Inv-loop μ-loop
+piece-ended c =
     let (none, formed, room, within, size) = c .before .loop .inv in
     record { room = room; within = within; lines = none; formed = formed; all = λ e. omega arith; some = λ e. absurd (false≢true e) }
 
@@ -83,12 +83,12 @@ take-line-spec =
     (λ c. search needs)
     (λ c. search needs)
     (λ c. search needs)
-    returns
+    at-newline
     (λ c. omega arith)
     (λ c. search needs)
     (λ c. search needs)
-    loop-again
+    byte-kept
     (λ c. search needs)
-    loop-again-2
+    byte-dropped
     (λ c. search needs)
-    returns-2)
+    piece-ended)

@@ -8,9 +8,9 @@ use Rattle.script_rules.proofs.Told.{told-by, granted-text}
 use Rattle.script_calls.proofs.on_ask.Statement.{statement}
 use Rattle.script_calls.proofs.on_ask.Tie as tie
 
-returns : tie.Need-returns
+answered : tie.Need-returns
 unfolding Doing Allocates
-returns c =
+answered c =
     let at-say = c .before .before in
     let at-of-grant = at-say .before in
     let at-allocate = at-of-grant .before .before .before .before .before .before .before in
@@ -28,4 +28,4 @@ on-ask-spec =
     (λ c. search needs)
     (λ c. search needs)
     (λ c. search needs)
-    returns)
+    answered)

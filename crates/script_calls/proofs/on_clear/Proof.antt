@@ -8,9 +8,9 @@ use Rattle.script_rules.proofs.Told.{told-by, replied-text}
 use Rattle.script_calls.proofs.on_clear.Statement.{statement}
 use Rattle.script_calls.proofs.on_clear.Tie as tie
 
-returns : tie.Need-returns
+answered : tie.Need-returns
 unfolding Doing Clears
-returns c =
+answered c =
     let at-say = c .before .before in
     let at-of-reply = at-say .before in
     let at-clear = at-of-reply .before .before .before .before .before .before .before in
@@ -26,4 +26,4 @@ on-clear-spec =
     (λ c. search needs)
     (λ c. search needs)
     (λ c. search needs)
-    returns)
+    answered)

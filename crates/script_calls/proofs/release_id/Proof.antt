@@ -7,14 +7,14 @@ use Rattle.script_rules.proofs.Told.{told-by, replied-text}
 use Rattle.script_calls.proofs.release_id.Statement.{statement}
 use Rattle.script_calls.proofs.release_id.Tie as tie
 
-returns : tie.Need-returns
+answered : tie.Need-returns
 unfolding Releases
-returns c =
+answered c =
     let at-say = c .before .before in
     let at-of-reply = at-say .before in
     let at-release = at-of-reply .before .before .before .before .before .before .before in
-    let a = at-release .before .before .before .before .before .before .args in
-    told-by replies replied replied-text (Release (a .row) (a .generation)) _ _ _ _ _ _ _ (at-release .release .ensures) _ (at-of-reply .of-reply .ensures) (at-say .say .ensures)
+    let given = at-release .before .before .before .before .before .before .args in
+    told-by replies replied replied-text (Release (given .row) (given .generation)) _ _ _ _ _ _ _ (at-release .release .ensures) _ (at-of-reply .of-reply .ensures) (at-say .say .ensures)
 
 pub release-id-spec : {M : Type 1} → statement M
 release-id-spec =
@@ -26,4 +26,4 @@ release-id-spec =
     (λ c. search needs)
     (λ c. search needs)
     (λ c. search needs)
-    returns)
+    answered)

@@ -17,25 +17,34 @@ abbrev μ-loop : tie.MeasureT-loop
 loop-holds : tie.Need-loop-holds Inv-loop μ-loop
 loop-holds c = (rw rows-none (listed-none _ _), omega arith, omega arith)
 
+-- a row has one line at most, and there are fewer rows than 65536
 add-count : tie.Need-add-count Inv-loop μ-loop
-add-count c = let a = c .before .before .before .before .before .before .before .before .before .before .before .args in omega (arith, c .before .before .before .put-row .ensures .counted, row-few (a .h) (a .shelves .now) (a .items .now) (c .before .before .before .before .before .before .before .loop .row))
+add-count c =
+    let counted = c .before .before .before .put-row .ensures .counted in
+    let row = c .before .before .before .before .before .before .before .loop .row in
+    let given = c .before .before .before .before .before .before .before .before .before .before .before .args in
+    omega (arith, counted, row-few (given .h) (given .shelves .now) (given .items .now) row)
 
+-- `put` is the place after the row is put, `at-loop` that of the loop, `given` what the function was given
 loop-again : tie.Need-loop-again Inv-loop μ-loop
-loop-again c = let a = c .before .before .before .before .before .before .before .before .before .before .before .args in (
-  rw rows-more (listed-then (c .before .before .before .before .before .before .before .loop .inv .0) (c .before .before .before .put-row .ensures)),
-  omega (arith, c .before .before .before .put-row .ensures .counted, row-few (a .h) (a .shelves .now) (a .items .now) (c .before .before .before .before .before .before .before .loop .row)),
-  omega arith,
-)
+loop-again c =
+    let put = c .before .before .before in
+    let at-loop = put .before .before .before .before in
+    let given = at-loop .before .before .before .before .args in (
+      rw rows-more (listed-then (at-loop .loop .inv .0) (put .put-row .ensures)),
+      omega (arith, put .put-row .ensures .counted, row-few (given .h) (given .shelves .now) (given .items .now) (at-loop .loop .row)),
+      omega arith,
+    )
 
 same-length : tie.Need-same-length Inv-loop μ-loop
 same-length c = put-length (c .before .before .loop .inv .0 .puts .puts)
 
 returns : tie.Need-returns Inv-loop μ-loop
 returns c =
-    let a = c .before .before .before .before .before .before .args in
-    let l = c .before .before .loop in
-    let e : l .row ≡ a .h .«used_items» = omega arith in
-    subst (λ (n : ℕ). Listed (rowsListed (a .h) (a .shelves .now) (a .items .now) n) (a .out .now) (a .at) (record { count = l .count; at = l .end }) (l .out)) e (c .before .before .loop .inv .0)
+    let given = c .before .before .before .before .before .before .args in
+    let turn = c .before .before .loop in
+    let e : turn .row ≡ given .h .«used_items» = omega arith in
+    subst (λ (n : ℕ). Listed (rowsListed (given .h) (given .shelves .now) (given .items .now) n) (given .out .now) (given .at) (record { count = turn .count; at = turn .end }) (turn .out)) e (c .before .before .loop .inv .0)
 
 pub put-rows-spec : {M : Type 1} → statement M
 put-rows-spec =

@@ -7,8 +7,16 @@ use Rattle.script_rules.proofs.Told.{told-by, granted-text}
 use Rattle.script_tells.proofs.tell.look_id.Statement.{statement}
 use Rattle.script_tells.proofs.tell.look_id.Tie as tie
 
-pub look-id-spec : {M : Type 1} → statement M
+answered : tie.Need-returns
 unfolding LooksUp
+answered c =
+    let at-say = c .before .before in
+    let at-of-grant = at-say .before in
+    let at-look-up = at-of-grant .before .before in
+    let given = at-look-up .before .before .before .before .args in
+    told-by grants granted granted-text (LookUp (given .row) (given .generation)) _ _ _ _ _ _ _ (at-look-up .look-up .ensures) _ (at-of-grant .of-grant .ensures) (at-say .say .ensures)
+
+pub look-id-spec : {M : Type 1} → statement M
 look-id-spec =
     tie.close
     (tie.spec
@@ -16,5 +24,4 @@ look-id-spec =
     (λ c κs. search needs)
     (λ c κs. search needs)
     (λ c. search needs)
-    (λ c. let s = c .before .before in let o = s .before in let l = o .before .before in let a = l .before .before .before .before .args in
-    told-by grants granted granted-text (LookUp (a .row) (a .generation)) _ _ _ _ _ _ _ (l .look-up .ensures) _ (o .of-grant .ensures) (s .say .ensures)))
+    answered)

@@ -6,25 +6,25 @@ use Rattle.script_rules.proofs.Told.{as-called, on-id, on-none}
 use Rattle.script_tells.proofs.tell.on_look.Statement.{statement}
 use Rattle.script_tells.proofs.tell.on_look.Tie as tie
 
-returns : tie.Need-returns
+names-item : tie.Need-returns
 unfolding Doing
-returns c =
+names-item c =
     let at-look-id = c .before .before in
     let at-id = at-look-id .before .before .before in
     let at-id-of = at-id .before .before in
     let start = at-id-of .before .before .before .before in
-    let q = simp (toZ-ofZ (start .fits .row), toZ-ofZ (start .fits .generation)) at (at-id-of .id-of .ensures) in
-    as-called _ _ _ (on-id LookUp (sym q ∙ at-id .id .given .1)) (at-look-id .look-id .ensures)
+    let id-is = simp (toZ-ofZ (start .fits .row), toZ-ofZ (start .fits .generation)) at (at-id-of .id-of .ensures) in
+    as-called _ _ _ (on-id LookUp (sym id-is ∙ at-id .id .given .1)) (at-look-id .look-id .ensures)
 
-returns-2 : tie.Need-returns-2
+names-none : tie.Need-returns-2
 unfolding Doing
-returns-2 c =
+names-none c =
     let at-outside = c .before .before in
     let at-told = at-outside .before .before in
     let at-id-of = at-told .before .before in
     let start = at-id-of .before .before .before .before in
-    let q = simp (toZ-ofZ (start .fits .row), toZ-ofZ (start .fits .generation)) at (at-id-of .id-of .ensures) in
-    as-called _ _ _ (on-none LookUp (sym q ∙ at-told .enum-told .given .1)) (at-outside .outside .ensures)
+    let id-is = simp (toZ-ofZ (start .fits .row), toZ-ofZ (start .fits .generation)) at (at-id-of .id-of .ensures) in
+    as-called _ _ _ (on-none LookUp (sym id-is ∙ at-told .enum-told .given .1)) (at-outside .outside .ensures)
 
 pub on-look-spec : {M : Type 1} → statement M
 on-look-spec =
@@ -34,8 +34,8 @@ on-look-spec =
     (λ c. search needs)
     (λ c κs. search needs)
     (λ c. search needs)
-    returns
+    names-item
     (λ c. search needs)
     (λ c κs. search needs)
     (λ c. search needs)
-    returns-2)
+    names-none)

@@ -4,6 +4,19 @@ use Rattle.script_tells.proofs.Told.{space-3, space-told}
 use Rattle.script_tells.proofs.tell.on_space.Statement.{statement}
 use Rattle.script_tells.proofs.tell.on_space.Tie as tie
 
+no-atlas : tie.Need-returns
+no-atlas c =
+    let at-say = c .before .before in
+    let tested = at-say .before .before in
+    space-3 _ _ _ (tested .before .passes .ensures) (tested .if1 .taken) (at-say .say .ensures)
+
+totals : tie.Need-returns-2
+totals c =
+    let at-say = c .before .before in
+    let at-space = at-say .before .before in
+    let tested = at-space .before in
+    space-told _ _ _ (tested .before .passes .ensures) (tested .if1 .left) _ (at-space .space-left .ensures) (at-say .say2 .ensures)
+
 pub on-space-spec : {M : Type 1} → statement M
 on-space-spec =
     tie.close
@@ -11,9 +24,8 @@ on-space-spec =
     (λ c κs. search needs)
     (λ c κs. search needs)
     (λ c. search needs)
-    (λ c. let s = c .before .before in let k = s .before .before in space-3 _ _ _ (k .before .passes .ensures) (k .if1 .taken) (s .say .ensures))
+    no-atlas
     (λ c κs. search needs)
     (λ c κs. search needs)
     (λ c. search needs)
-    (λ c. let s = c .before .before in let f = s .before .before in let k = f .before in
-    space-told _ _ _ (k .before .passes .ensures) (k .if1 .left) _ (f .space-left .ensures) (s .say2 .ensures)))
+    totals)
