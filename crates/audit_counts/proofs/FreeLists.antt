@@ -73,6 +73,8 @@ module _ {h : Header} {S I : List ℕ} (one : Rule1 h S I) (three : Rule3 h S I)
     list-frees : (on : ℕ) → on ∈ shelvesMet h S → (r : ℕ) → r ∈ freeMet h S I on → r ∈ frees I (itemsMet h S I on)
     list-frees on m r k = in-free I (itemsMet h S I on) r (list-items on m r k) (list-free on (list-at on m) r k)
 
+    -- No list has more rows than its shelf has free items, and in all there are as many of both. So each list has as many as its shelf has
+    -- free items, and as no row stands twice, it lacks none.
     pub lists-right : length (allFreeMet h S I) ≡ sumOver (freeOf I) (allItemsMet h S I) → Rule5 h S I
     unfolding Rule5 allFreeMet allItemsMet
     lists-right e = each-from (shelvesMet h S) right where

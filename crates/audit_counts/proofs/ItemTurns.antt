@@ -170,80 +170,82 @@ shelf-wrong n = record {
 }
 
 module _ {h : Header} {I : List ℕ} {on : ℕ} {s : ShelfRow} {cur prev x edge free count gap stray : ℕ}
-    (w : InShelf h I on s cur prev x edge free count gap stray) where
+    (so-far : InShelf h I on s cur prev x edge free count gap stray) where
   pub shelf-outside : cur ≢ noRow → h .«used_items» ≤ cur → RightOf h I on s → ⊥
-  shelf-outside ne o = going-outside (w .going) ne o
+  shelf-outside ne outside-rows = going-outside (so-far .going) ne outside-rows
 
   pub shelf-beyond : h .«used_items» < count → RightOf h I on s → ⊥
-  shelf-beyond b = w .going .beyond b
+  shelf-beyond b = so-far .going .beyond b
 
   pub shelf-ended : cur ≡ noRow → count ≤ h .«used_items»
       → ShelfTallied h I on s (record { right = eqb x (s .x + h .limits .«shelf_width»); count = count; free = free; live = x - s .x - gap; stray = stray })
   shelf-ended stop few =
-      let at = w .going .within few in
+      let at = so-far .going .within few in
       let n = last-ended (at .count) stop in
       record {
-        exact = record { sound = λ e. unended (at .walk) (w .used-most) stop (eqb-true _ _ e); complete = λ a. eq-eqb _ _ (ended (at .walk) (w .used-most) stop a) };
+        exact = record { sound = λ e. unended (at .walk) (so-far .used-most) stop (eqb-true _ _ e); complete = λ a. eq-eqb _ _ (ended (at .walk) (so-far .used-most) stop a) };
         counts = λ e. record { count = omega (arith, n, few); free = sum-ended (at .frees) stop; live = sum-ended (at .lives) stop; stray = sum-ended (at .strays) stop };
-        count-most = omega (arith, few, w .used-most);
-        free-most = omega (arith, few, w .used-most, w .free-most);
-        live-most = omega (arith, w .x-most);
-        stray-most = omega (arith, few, w .used-most, w .stray-most);
+        count-most = omega (arith, few, so-far .used-most);
+        free-most = omega (arith, few, so-far .used-most, so-far .free-most);
+        live-most = omega (arith, so-far .x-most);
+        stray-most = omega (arith, few, so-far .used-most, so-far .stray-most);
       }
 
-  module _ (u : cur < h .«used_items») (i : ItemRow) (e : i ≡ get items I cur) where
+  module _ (in-use : cur < h .«used_items») (i : ItemRow) (row-is : i ≡ get items I cur) where
     there : cur ≢ noRow
-    there q = omega (arith, u, q, w .used-most)
+    there q = omega (arith, in-use, q, so-far .used-most)
 
     pub item-misplaced : (Placed h on prev x i → ⊥) → RightOf h I on s → ⊥
-    item-misplaced n = going-wrong (w .going) there i e (λ o. n (placed o))
+    item-misplaced n = going-wrong (so-far .going) there i row-is (λ right. n (placed right))
 
-    module _ (o : Placed h on prev x i) where
+    module _ (right : Placed h on prev x i) where
       pub two-free : i .allocated ≢ 1 → edge ≡ x + 1 → RightOf h I on s → ⊥
-      two-free n q = going-wrong (w .going) there i e (λ r. false≢true (sym (r .apart) ∙ both (eq-eqb edge (x + 1) q) (eq-eqb (i .allocated) 0 (omega (arith, n, o .flag-right)))))
+      two-free n q = going-wrong (so-far .going) there i row-is (λ r. false≢true (sym (r .apart) ∙ both (eq-eqb edge (x + 1) q) (eq-eqb (i .allocated) 0 (omega (arith, n, right .flag-right)))))
 
-    module _ (o : Placed h on prev x i) (m : Small i) where
+    module _ (right : Placed h on prev x i) (small : Small i) where
       end-most : x + i .width ≤ 131070
-      end-most = omega (arith, o .at-x)
+      end-most = omega (arith, right .at-x)
 
+      -- a free item adds 1 to the free ones and its width to the gap; the one before it is not free, since the last free one did not end at x
       pub past-free : i .allocated ≢ 1 → edge ≢ x + 1
           → InShelf h I on s (i .next .0) cur (x + i .width) (x + i .width + 1) (free + 1) (count + 1) (gap + i .width) stray
       unfolding along freeIn liveIn strayIn
-      past-free a n =
-          let is : eqb (i .allocated) 0 ≡ true = eq-eqb (i .allocated) 0 (omega (arith, a, o .flag-right)) in
-          let one : freeIn i ≡ 1 = rw is in
-          let none : liveIn i ≡ 0 = rw is in
-          let clean : strayIn i ≡ 0 = rw is in
+      past-free flag-is n =
+          let test : eqb (i .allocated) 0 ≡ true = eq-eqb (i .allocated) 0 (omega (arith, flag-is, right .flag-right)) in
+          let one : freeIn i ≡ 1 = rw test in
+          let none : liveIn i ≡ 0 = rw test in
+          let clean : strayIn i ≡ 0 = rw test in
           record {
-            going = going-as _ _ _ _ _ _ _ _ (going-past (w .going) there i e u (flagged _ o (rw (ne-eqb edge (x + 1) n))))
-                (is ∙ sym (eq-eqb (x + i .width + 1) (x + i .width + 1) refl)) (omega (arith, one)) (gap-wider _ _ _ _ _ (w .gap-most) none) (omega (arith, clean));
-            used-most = w .used-most;
+            going = going-as _ _ _ _ _ _ _ _ (going-past (so-far .going) there i row-is in-use (flagged _ right (rw (ne-eqb edge (x + 1) n))))
+                (test ∙ sym (eq-eqb (x + i .width + 1) (x + i .width + 1) refl)) (omega (arith, one)) (gap-wider _ _ _ _ _ (so-far .gap-most) none) (omega (arith, clean));
+            used-most = so-far .used-most;
             x-most = end-most;
-            gap-most = omega (arith, w .gap-most);
-            count-most = omega (arith, w .count-most, o .some-width);
-            free-most = omega (arith, w .free-most);
-            stray-most = omega (arith, w .stray-most);
+            gap-most = omega (arith, so-far .gap-most);
+            count-most = omega (arith, so-far .count-most, right .some-width);
+            free-most = omega (arith, so-far .free-most);
+            stray-most = omega (arith, so-far .stray-most);
             edge-most = omega arith;
           }
 
+      -- a live item adds its width to the live ones, and to the strays how far its free links are from none
       pub past-live : (stray′ : ℕ) → i .allocated ≡ 1
           → stray′ + (i .«prev_unallocated» .0 + i .«next_unallocated» .0) ≡ stray + 131070
           → InShelf h I on s (i .next .0) cur (x + i .width) edge free (count + 1) gap stray′
       unfolding along freeIn liveIn strayIn
-      past-live stray′ a r =
-          let is : eqb (i .allocated) 0 ≡ false = ne-eqb (i .allocated) 0 (λ z. omega (arith, a)) in
-          let none : freeIn i ≡ 0 = rw is in
-          let wide : liveIn i ≡ i .width = rw is in
-          let far : strayIn i ≡ apart (i .«prev_unallocated» .0) noRow + apart (i .«next_unallocated» .0) noRow = rw is in
+      past-live stray′ flag-is stray-is =
+          let test : eqb (i .allocated) 0 ≡ false = ne-eqb (i .allocated) 0 (λ z. omega (arith, flag-is)) in
+          let none : freeIn i ≡ 0 = rw test in
+          let wide : liveIn i ≡ i .width = rw test in
+          let far : strayIn i ≡ apart (i .«prev_unallocated» .0) noRow + apart (i .«next_unallocated» .0) noRow = rw test in
           record {
-            going = going-as _ _ _ _ _ _ _ _ (going-past (w .going) there i e u (flagged _ o (rw is (and-false (eqb edge (x + 1))))))
-                (is ∙ sym (ne-eqb edge (x + i .width + 1) (λ z. omega (arith, o .some-width, w .edge-most)))) (omega (arith, none))
-                (gap-same _ _ _ _ _ (w .gap-most) wide) (omega (arith, far, r, links-far (i .«prev_unallocated» .0) (i .«next_unallocated» .0) (m .prev-free) (m .next-free)));
-            used-most = w .used-most;
+            going = going-as _ _ _ _ _ _ _ _ (going-past (so-far .going) there i row-is in-use (flagged _ right (rw test (and-false (eqb edge (x + 1))))))
+                (test ∙ sym (ne-eqb edge (x + i .width + 1) (λ z. omega (arith, right .some-width, so-far .edge-most)))) (omega (arith, none))
+                (gap-same _ _ _ _ _ (so-far .gap-most) wide) (omega (arith, far, stray-is, links-far (i .«prev_unallocated» .0) (i .«next_unallocated» .0) (small .prev-free) (small .next-free)));
+            used-most = so-far .used-most;
             x-most = end-most;
-            gap-most = omega (arith, w .gap-most);
-            count-most = omega (arith, w .count-most, o .some-width);
-            free-most = omega (arith, w .free-most);
-            stray-most = omega (arith, w .stray-most, r);
-            edge-most = omega (arith, w .edge-most);
+            gap-most = omega (arith, so-far .gap-most);
+            count-most = omega (arith, so-far .count-most, right .some-width);
+            free-most = omega (arith, so-far .free-most);
+            stray-most = omega (arith, so-far .stray-most, stray-is);
+            edge-most = omega (arith, so-far .edge-most);
           }

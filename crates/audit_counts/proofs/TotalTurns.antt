@@ -57,15 +57,16 @@ totals-begin h S I b = record {
   area-most = omega arith;
 }
 
-module _ {h : Header} {S I : List ℕ} {cur fuel : ℕ} {t : Totals} (w : AtTotals h S I cur fuel t) (ne : cur ≢ noRow) (f : 1 ≤ fuel)
-    (s : ShelfRow) (e : s ≡ get shelves S cur) (of : Tally) (m : ShelfTallied h I cur s of) where
+module _ {h : Header} {S I : List ℕ} {cur fuel : ℕ} {t : Totals} (so-far : AtTotals h S I cur fuel t) (some-row : cur ≢ noRow) (steps-left : 1 ≤ fuel)
+    (s : ShelfRow) (row-is : s ≡ get shelves S cur) (of : Tally) (tallied : ShelfTallied h I cur s of) where
   pub wrong-items : not (of .right) ≡ true → Rule3 h S I → ⊥
   unfolding ItemsRight RightOf
-  wrong-items n = each-wrong (w .each) ne f (λ o. denied (m .exact) n (rw e o))
+  wrong-items told = each-wrong (so-far .each) some-row steps-left (λ o. denied (tallied .exact) told (rw row-is o))
 
   pub area-small : s .height ≤ 65535 → of .live * s .height ≤ 8589672450
-  area-small k = mul-le-mul (m .live-most) k
+  area-small height-fits = mul-le-mul (tallied .live-most) height-fits
 
+  -- what the shelf adds to each sum is what was tallied of it, read from the row that it is in
   pub past-items : s .height ≤ 65535 → not (of .right) ≡ false
       → AtTotals h S I (s .next .0) (fuel - 1) (record {
         right = t .right;
@@ -76,27 +77,27 @@ module _ {h : Header} {S I : List ℕ} {cur fuel : ℕ} {t : Totals} (w : AtTota
         area = t .area + of .live * s .height;
       })
   unfolding ItemsRight RightOf itemsMet rowsOf areaMet
-  past-items k n =
-      let counts = m .counts (not-false _ n) in
-      let q : s .next .0 ≡ shelfNext S cur = ap (λ (v : ShelfRow). v .next .0) e in
-      let r : rowsOf h I s ≡ itemsMet h S I cur = ap (λ (v : ShelfRow). rowsOf h I v) e in
-      let deep : s .height ≡ get shelves S cur .height = ap (λ (v : ShelfRow). v .height) e in
-      let live : of .live ≡ sumOver (liveOf I) (itemsMet h S I cur) = counts .live ∙ ap (sumOver (liveOf I)) r in
+  past-items height-fits told =
+      let counts = tallied .counts (not-false _ told) in
+      let next-is : s .next .0 ≡ shelfNext S cur = ap (λ (v : ShelfRow). v .next .0) row-is in
+      let rows-are : rowsOf h I s ≡ itemsMet h S I cur = ap (λ (v : ShelfRow). rowsOf h I v) row-is in
+      let deep : s .height ≡ get shelves S cur .height = ap (λ (v : ShelfRow). v .height) row-is in
+      let live : of .live ≡ sumOver (liveOf I) (itemsMet h S I cur) = counts .live ∙ ap (sumOver (liveOf I)) rows-are in
       let area : of .live * s .height ≡ areaMet h S I cur = rw (live, deep) (sym (live-area I (get shelves S cur .height) (itemsMet h S I cur))) in
       record {
-        each = rw q (each-onward (w .each) ne f (rw e at (allowed (m .exact) n)));
-        shelf-count = summed-as (w .shelf-count) ne f refl q;
-        item-count = summed-as (w .item-count) ne f (counts .count ∙ ap length r) q;
-        frees = summed-as (w .frees) ne f (counts .free ∙ ap (sumOver (freeOf I)) r) q;
-        strays = summed-as (w .strays) ne f (counts .stray ∙ ap (sumOver (strayOf I)) r) q;
-        areas = summed-as (w .areas) ne f area q;
-        right = w .right;
-        used-most = w .used-most;
-        shelves-most = omega (arith, w .shelves-most);
-        items-most = omega (arith, w .items-most, m .count-most);
-        free-most = omega (arith, w .free-most, m .free-most);
-        stray-most = omega (arith, w .stray-most, m .stray-most);
-        area-most = omega (arith, w .area-most, area-small k);
+        each = rw next-is (each-onward (so-far .each) some-row steps-left (rw row-is at (allowed (tallied .exact) told)));
+        shelf-count = summed-as (so-far .shelf-count) some-row steps-left refl next-is;
+        item-count = summed-as (so-far .item-count) some-row steps-left (counts .count ∙ ap length rows-are) next-is;
+        frees = summed-as (so-far .frees) some-row steps-left (counts .free ∙ ap (sumOver (freeOf I)) rows-are) next-is;
+        strays = summed-as (so-far .strays) some-row steps-left (counts .stray ∙ ap (sumOver (strayOf I)) rows-are) next-is;
+        areas = summed-as (so-far .areas) some-row steps-left area next-is;
+        right = so-far .right;
+        used-most = so-far .used-most;
+        shelves-most = omega (arith, so-far .shelves-most);
+        items-most = omega (arith, so-far .items-most, tallied .count-most);
+        free-most = omega (arith, so-far .free-most, tallied .free-most);
+        stray-most = omega (arith, so-far .stray-most, tallied .stray-most);
+        area-most = omega (arith, so-far .area-most, area-small height-fits);
       }
 
 -- the totals at the end of the walk, by either way out
@@ -104,25 +105,25 @@ totals-are : (h : Header) (S I : List ℕ) (t : Totals) → t .shelves ≡ sumOv
     → t .items ≡ sumOver (λ on. length (itemsMet h S I on)) (shelvesMet h S) → t .free ≡ sumOver (λ on. sumOver (freeOf I) (itemsMet h S I on)) (shelvesMet h S)
     → t .stray ≡ sumOver (λ on. sumOver (strayOf I) (itemsMet h S I on)) (shelvesMet h S) → t .area ≡ sumOver (areaMet h S I) (shelvesMet h S) → AllCounts h S I t
 unfolding allItemsMet
-totals-are h S I t a b d e f = record {
-  shelves = a ∙ sym (length-sum (shelvesMet h S));
-  items = b ∙ sym (length-gather (itemsMet h S I) (shelvesMet h S));
-  free = d ∙ sym (sum-gather (freeOf I) (itemsMet h S I) (shelvesMet h S));
-  stray = e ∙ sym (sum-gather (strayOf I) (itemsMet h S I) (shelvesMet h S));
-  area = f;
+totals-are h S I t shelves-are items-are free-are stray-are area-is = record {
+  shelves = shelves-are ∙ sym (length-sum (shelvesMet h S));
+  items = items-are ∙ sym (length-gather (itemsMet h S I) (shelvesMet h S));
+  free = free-are ∙ sym (sum-gather (freeOf I) (itemsMet h S I) (shelvesMet h S));
+  stray = stray-are ∙ sym (sum-gather (strayOf I) (itemsMet h S I) (shelvesMet h S));
+  area = area-is;
 }
 
-module _ {h : Header} {S I : List ℕ} {cur fuel : ℕ} {t : Totals} (w : AtTotals h S I cur fuel t) where
+module _ {h : Header} {S I : List ℕ} {cur fuel : ℕ} {t : Totals} (so-far : AtTotals h S I cur fuel t) where
   pub totals-ended : cur ≡ noRow → AllTallied h S I t
   totals-ended e = record {
-    exact = record { sound = λ q. each-ended (w .each) e; complete = λ q. w .right };
-    counts = λ q. totals-are h S I t (sum-ended (w .shelf-count) e) (sum-ended (w .item-count) e) (sum-ended (w .frees) e) (sum-ended (w .strays) e) (sum-ended (w .areas) e);
+    exact = record { sound = λ q. each-ended (so-far .each) e; complete = λ q. so-far .right };
+    counts = λ q. totals-are h S I t (sum-ended (so-far .shelf-count) e) (sum-ended (so-far .item-count) e) (sum-ended (so-far .frees) e) (sum-ended (so-far .strays) e) (sum-ended (so-far .areas) e);
   }
 
   pub totals-out : fuel ≡ 0 → AllTallied h S I t
   totals-out e = record {
-    exact = record { sound = λ q. each-out (w .each) e; complete = λ q. w .right };
-    counts = λ q. totals-are h S I t (sum-out (w .shelf-count) e) (sum-out (w .item-count) e) (sum-out (w .frees) e) (sum-out (w .strays) e) (sum-out (w .areas) e);
+    exact = record { sound = λ q. each-out (so-far .each) e; complete = λ q. so-far .right };
+    counts = λ q. totals-are h S I t (sum-out (so-far .shelf-count) e) (sum-out (so-far .item-count) e) (sum-out (so-far .frees) e) (sum-out (so-far .strays) e) (sum-out (so-far .areas) e);
   }
 
 -- ---- the free lists of all the shelves
@@ -137,36 +138,36 @@ pub lists-begin : (h : Header) (S I : List ℕ) → h .«used_shelves» ≤ noRo
 unfolding shelvesMet
 lists-begin h S I b = record { each = each-begins; counts = sums; used-most = b; count-most = omega arith }
 
-module _ {h : Header} {S I : List ℕ} {cur fuel count : ℕ} (w : AtLists h S I cur fuel count) (ne : cur ≢ noRow) (f : 1 ≤ fuel)
-    (s : ShelfRow) (e : s ≡ get shelves S cur) (of : Counted) (m : FreeListCounted h I cur (s .«first_unallocated» .0) of) where
+module _ {h : Header} {S I : List ℕ} {cur fuel count : ℕ} (so-far : AtLists h S I cur fuel count) (some-row : cur ≢ noRow) (steps-left : 1 ≤ fuel)
+    (s : ShelfRow) (row-is : s ≡ get shelves S cur) (of : Counted) (counted-so : FreeListCounted h I cur (s .«first_unallocated» .0) of) where
   pub wrong-list : not (of .right) ≡ true → Each (FreeListOf h S I) (shelvesMet h S) → ⊥
   unfolding FreeListOf
-  wrong-list n = each-wrong (w .each) ne f (λ o. denied (m .counted .exact) n (rw e o))
+  wrong-list told = each-wrong (so-far .each) some-row steps-left (λ o. denied (counted-so .counted .exact) told (rw row-is o))
 
   pub past-list : not (of .right) ≡ false → AtLists h S I (s .next .0) (fuel - 1) (count + of .count)
   unfolding FreeListOf freeMet
-  past-list n =
-      let q : s .next .0 ≡ shelfNext S cur = ap (λ (v : ShelfRow). v .next .0) e in
+  past-list told =
+      let next-is : s .next .0 ≡ shelfNext S cur = ap (λ (v : ShelfRow). v .next .0) row-is in
       record {
-        each = rw q (each-onward (w .each) ne f (rw e at (allowed (m .counted .exact) n)));
-        counts = summed-as (w .counts) ne f (m .counted .count (not-false _ n) ∙ rw e) q;
-        used-most = w .used-most;
-        count-most = omega (arith, w .count-most, m .count-most);
+        each = rw next-is (each-onward (so-far .each) some-row steps-left (rw row-is at (allowed (counted-so .counted .exact) told)));
+        counts = summed-as (so-far .counts) some-row steps-left (counted-so .counted .count (not-false _ told) ∙ rw row-is) next-is;
+        used-most = so-far .used-most;
+        count-most = omega (arith, so-far .count-most, counted-so .count-most);
       }
 
 lists-are : (h : Header) (S I : List ℕ) (count : ℕ) → count ≡ sumOver (λ on. length (freeMet h S I on)) (shelvesMet h S) → count ≡ length (allFreeMet h S I)
 unfolding allFreeMet
 lists-are h S I count e = e ∙ sym (length-gather (freeMet h S I) (shelvesMet h S))
 
-module _ {h : Header} {S I : List ℕ} {cur fuel count : ℕ} (w : AtLists h S I cur fuel count) where
+module _ {h : Header} {S I : List ℕ} {cur fuel count : ℕ} (so-far : AtLists h S I cur fuel count) where
   pub lists-ended : cur ≡ noRow → Counts (Each (FreeListOf h S I) (shelvesMet h S)) (allFreeMet h S I) (record { right = true; count = count })
   lists-ended e = record {
-    exact = record { sound = λ q. each-ended (w .each) e; complete = λ q. refl };
-    count = λ q. lists-are h S I count (sum-ended (w .counts) e);
+    exact = record { sound = λ q. each-ended (so-far .each) e; complete = λ q. refl };
+    count = λ q. lists-are h S I count (sum-ended (so-far .counts) e);
   }
 
   pub lists-out : fuel ≡ 0 → Counts (Each (FreeListOf h S I) (shelvesMet h S)) (allFreeMet h S I) (record { right = true; count = count })
   lists-out e = record {
-    exact = record { sound = λ q. each-out (w .each) e; complete = λ q. refl };
-    count = λ q. lists-are h S I count (sum-out (w .counts) e);
+    exact = record { sound = λ q. each-out (so-far .each) e; complete = λ q. refl };
+    count = λ q. lists-are h S I count (sum-out (so-far .counts) e);
   }
