@@ -19,11 +19,11 @@ use Rattle.merge.specs.Merge.{releaseAt}
 use Rattle.search.specs.declared.Place.{Place}
 use Rattle.search.specs.declared.Held.the-variants.{Nothing, Good, Bad}
 use Rattle.bridge.proofs.Outcome as outcome
-use Rattle.bridge.proofs.CreateClear as creating
-use Rattle.bridge.proofs.Queries as answers
-use Rattle.bridge.proofs.PlaceOrRefusal as held
-use Rattle.bridge.proofs.Grant as granted
-use Rattle.bridge.proofs.Release as released
+use Rattle.bridge.proofs.CreateClear as create-clear
+use Rattle.bridge.proofs.Queries as queries
+use Rattle.bridge.proofs.PlaceOrRefusal as place-or-refusal
+use Rattle.bridge.proofs.Grant as whole-grant
+use Rattle.bridge.proofs.Release as whole-release
 
 -- ---- what a call leaves
 
@@ -40,11 +40,11 @@ one-outcome = outcome.one-outcome
 
 pub create-becomes : (l : Limits) (S I : List ℕ) → WithinLimits l → columns l ≤ rows shelves S → columns l ≤ rows items I
     → Becomes S I (freshHeader l (columns l)) (freshShelfTable l (columns l) S) (freshItemTable l (columns l) I) (fresh l)
-create-becomes = creating.create-becomes
+create-becomes = create-clear.create-becomes
 
 pub clear-becomes : (h : Header) (S I : List ℕ) → PassesForClear h S I
     → Becomes S I (freshHeader (h .limits) (columns (h .limits))) (freshShelfTable (h .limits) (columns (h .limits)) S) (freshItemTable (h .limits) (columns (h .limits)) I) (fresh (h .limits))
-clear-becomes = creating.clear-becomes
+clear-becomes = create-clear.clear-becomes
 
 -- ---- allocate
 
@@ -55,24 +55,24 @@ limits-are h S I = refl
 
 module _ (h : Header) (S I : List ℕ) (p : Passes h S I) (q : Asked) where
   pub grant-nothing : search h S I q ≡ Nothing → grant (roomIn S I) (atlasIn h S I) q ≡ refused 6
-  grant-nothing = held.refuses-6 h S I (atlasIn h S I) (reads h S I p) (formed h S I p) q
+  grant-nothing = place-or-refusal.refuses-6 h S I (atlasIn h S I) (reads h S I p) (formed h S I p) q
 
   pub grant-few : (at : Place) → (search h S I q ≡ Good at) ⊎ (search h S I q ≡ Bad at) → hasRows h S I at q ≡ false → grant (roomIn S I) (atlasIn h S I) q ≡ refused 7
   grant-few at o =
-      held.refuses-7 h S I (atlasIn h S I) (reads h S I p) (formed h S I p) q at (held.place-held h S I (atlasIn h S I) (reads h S I p) (formed h S I p) q at o)
+      place-or-refusal.refuses-7 h S I (atlasIn h S I) (reads h S I p) (formed h S I p) q at (place-or-refusal.place-held h S I (atlasIn h S I) (reads h S I p) (formed h S I p) q at o)
 
   pub grant-placed : Placeable (h .limits) q → (at : Place) → (search h S I q ≡ Good at) ⊎ (search h S I q ≡ Bad at) → hasRows h S I at q ≡ true
       → (a′ : Atlas)
       × (grant (roomIn S I) (atlasIn h S I) q ≡ grants (grantedAt (state h S I) at q .live) a′)
       × Becomes S I (grantAt (state h S I) at q .header) (grantAt (state h S I) at q .shelves) (grantAt (state h S I) at q .items) a′
   grant-placed within at o =
-      granted.grant-done h S I (atlasIn h S I) (reads h S I p) (formed h S I p) q (rw limits-are within) at (held.place-held h S I (atlasIn h S I) (reads h S I p) (formed h S I p) q at o)
+      whole-grant.grant-done h S I (atlasIn h S I) (reads h S I p) (formed h S I p) q (rw limits-are within) at (place-or-refusal.place-held h S I (atlasIn h S I) (reads h S I p) (formed h S I p) q at o)
 
 -- ---- release and look-up
 
 module _ (h : Header) (S I : List ℕ) (p : Passes h S I) (row generation : ℕ) where
   pub release-none : isLive h I row generation ≡ false → release (atlasIn h S I) row generation ≡ refused 8
-  release-none = answers.release-none h S I p row generation
+  release-none = queries.release-none h S I p row generation
 
   pub release-done : isLive h I row generation ≡ true
       → (a′ : Atlas)
@@ -80,35 +80,35 @@ module _ (h : Header) (S I : List ℕ) (p : Passes h S I) (row generation : ℕ)
       × Becomes S I (releaseAt (state h S I) (atRow row) .header) (releaseAt (state h S I) (atRow row) .shelves) (releaseAt (state h S I) (atRow row) .items) a′
   unfolding release
   release-done e =
-      let (w, f, found, live) = answers.finds-live h S I p row generation e in
-      (releaseFound (atlasIn h S I) w, rw (f, release), released.release-becomes h S I (atlasIn h S I) (reads h S I p) (formed h S I p) row w found live)
+      let (w, f, found, live) = queries.finds-live h S I p row generation e in
+      (releaseFound (atlasIn h S I) w, rw (f, release), whole-release.release-becomes h S I (atlasIn h S I) (reads h S I p) (formed h S I p) row w found live)
 
   pub look-none : isLive h I row generation ≡ false → lookUp (atlasIn h S I) row generation ≡ refused 8
-  look-none = answers.look-none h S I p row generation
+  look-none = queries.look-none h S I p row generation
 
   pub look-some : isLive h I row generation ≡ true → lookUp (atlasIn h S I) row generation ≡ gives (liveAt h S I row)
-  look-some = answers.look-some h S I p row generation
+  look-some = queries.look-some h S I p row generation
 
 -- ---- list, totals, size, is_empty
 
 module _ (h : Header) (S I : List ℕ) (p : Passes h S I) where
   pub list-is : list (atlasIn h S I) ≡ rowsListed h S I (h .«used_items»)
-  list-is = answers.list-is h S I p
+  list-is = queries.list-is h S I p
 
   pub occupied-is : occupied (atlasIn h S I .shelves) ≡ h .occupied
-  occupied-is = answers.occupied-is h S I p
+  occupied-is = queries.occupied-is h S I p
 
   pub occupied-fits : h .occupied ≤ h .limits .width * h .limits .height
-  occupied-fits = answers.occupied-fits h S I p
+  occupied-fits = queries.occupied-fits h S I p
 
   pub free-is : freeSpace (atlasIn h S I) ≡ spaceLeft (h .limits) (h .occupied)
-  free-is = answers.free-is h S I p
+  free-is = queries.free-is h S I p
 
   pub empty-is : allEmpty (atlasIn h S I .shelves) ≡ isVacant h
-  empty-is = answers.empty-is h S I p
+  empty-is = queries.empty-is h S I p
 
   pub size-x-is : sizeX (atlasIn h S I) ≡ pick (eqb (h .limits .vertical) 1) (h .limits .height) (h .limits .width)
-  size-x-is = answers.size-x-is h S I p
+  size-x-is = queries.size-x-is h S I p
 
   pub size-y-is : sizeY (atlasIn h S I) ≡ pick (eqb (h .limits .vertical) 1) (h .limits .width) (h .limits .height)
-  size-y-is = answers.size-y-is h S I p
+  size-y-is = queries.size-y-is h S I p

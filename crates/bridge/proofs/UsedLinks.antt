@@ -49,20 +49,20 @@ module _ (I : List ℕ) (n : ℕ) where
       ⊎-elim
       (λ live. rw (holds .live-unlinked r live) (inr refl, inr refl))
       (λ is-free.
-      let k : Between free n (linksOf (get items I r)) =
+      let place : Between free n (linksOf (get items I r)) =
       between free (λ q. linksOf (get items I q)) n noRow (s .free) (inr refl) (λ q d. b q (free-row (s .items) q (listed .only q (rw self at d)))) (holds .free-order) r (rw self (all r is-free)) in
-      rw (k .says) (k .before-below, k .after-below))
+      rw (place .says) (place .before-below, place .after-below))
       (live-or-free (s .items) r m)
 
   -- the other two links are those of its place among the items of the shelf
   shelf-linked : (s : Shelf) → Holds I s → AllListed s → FreeListed s → ((r : ℕ) → r ∈ itemRows (s .items) → r < n) → (r : ℕ) → r ∈ itemRows (s .items) → Linked n (get items I r)
   unfolding bodyOf linksOf
   shelf-linked s holds all listed b r m =
-      let k : Between (item (s .row)) n (bodyOf (get items I r)) = between (item (s .row)) (λ q. bodyOf (get items I q)) n noRow (s .items) (inr refl) b (holds .in-order) r m in
+      let place : Between (item (s .row)) n (bodyOf (get items I r)) = between (item (s .row)) (λ q. bodyOf (get items I q)) n noRow (s .items) (inr refl) b (holds .in-order) r m in
       let (p, q) = links-below s holds all listed b r m in
       record {
-        prev = subst (Below n) (sym (ap (λ (x : Body). x .prev) (k .says))) (k .before-below);
-        next = subst (Below n) (sym (ap (λ (x : Body). x .next) (k .says))) (k .after-below);
+        prev = subst (Below n) (sym (ap (λ (x : Body). x .prev) (place .says))) (place .before-below);
+        next = subst (Below n) (sym (ap (λ (x : Body). x .next) (place .says))) (place .after-below);
         prev-free = p;
         next-free = q;
       }
@@ -78,8 +78,8 @@ module _ (I : List ℕ) (n : ℕ) where
   freed-linked : 0 < n → (fs : List Freed) → Chain freedItem (get items I) noRow fs → ((r : ℕ) → r ∈ freedRows fs → r < n) → (r : ℕ) → r ∈ freedRows fs → Linked n (get items I r)
   unfolding freedItemRow withItemNext withGeneration
   freed-linked some fs c b r m =
-      let k : Between freedItem n (get items I r) = between freedItem (get items I) n noRow fs (inr refl) b c r m in
-      rw (k .says) (record { prev = inl some; next = k .after-below; prev-free = inl some; next-free = inl some })
+      let place : Between freedItem n (get items I r) = between freedItem (get items I) n noRow fs (inr refl) b c r m in
+      rw (place .says) (record { prev = inl some; next = place .after-below; prev-free = inl some; next-free = inl some })
 
 -- ---- all used rows
 

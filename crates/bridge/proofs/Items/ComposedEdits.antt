@@ -29,9 +29,9 @@ module _ {I₀ I : List ℕ} {on : ℕ} {others : List ℕ} (r : Rows) (ib : Lis
   pub whole-open : Open I₀ (takeWholeItems I (atRow (i .row))) on (backOnto ib (grantedItem i (i .width) ∷ ia)) (backOnto fb fa) (r .items) others
   unfolding takeWholeItems grantedItem
   whole-open =
-      let (db, dy, apart) = onto-apart one fb (i .row ∷ fa) (o .free-once) in
+      let (once-before, once-from, apart) = onto-apart one fb (i .row ∷ fa) (o .free-once) in
       live-open ib i ia (unlist-open fb (i .row) fa o) (grantedItem i (i .width)) refl
-      (λ m. ⊎-elim (λ k. apart (i .row) k (List·Memᴰ·head refl)) (dy .0) (onto-in one (i .row) fb fa m))
+      (λ m. ⊎-elim (λ k. apart (i .row) k (List·Memᴰ·head refl)) (once-from .0) (onto-in one (i .row) fb fa m))
 
   -- the left part of it
   module _ (h : Header) (head : h .«free_items» .0 ≡ firstRow freedRow (r .items .freed)) (used : h .«used_items» ≡ r .items .used)
@@ -46,20 +46,20 @@ module _ {I₀ I : List ℕ} {on : ℕ} {others : List ℕ} (r : Rows) (ib : Lis
     pub part-open : Open I₀ (takePartItems h I (atRow (i .row)) width) on (backOnto ib (grantedItem i width ∷ restOf r i width ∷ ia)) (backOnto fb (newItemRow r ∷ fa)) (taken (r .items)) others
     unfolding grantedItem restOf newItemRow
     part-open =
-        let (db, dy, apart) = onto-apart one fb (i .row ∷ fa) (o .free-once) in
+        let (once-before, once-from, apart) = onto-apart one fb (i .row ∷ fa) (o .free-once) in
         let new : ℕ = newRow freedRow (r .items) in
-        let i′ : Item = resized i width (i .live) in
-        let n : Item = restOf r i width in
-        let out : new ∈ itemRows (backOnto ib (i ∷ ia)) → ⊥ = new-out ib i ia o h head used left width within narrow in
+        let left-part : Item = resized i width (i .live) in
+        let rest : Item = restOf r i width in
+        let new-unused : new ∈ itemRows (backOnto ib (i ∷ ia)) → ⊥ = new-out ib i ia o h head used left width within narrow in
         rw part-is
-        (live-open ib i′ (n ∷ ia)
+        (live-open ib left-part (rest ∷ ia)
         (relist-open fb (i .row) fa (split-open ib i ia o h head used left width within narrow) new
-        (in-onto freeOf new ib (i′ ∷ n ∷ ia) (inr (Memᴰ·append-right (freeOf i) (List·Memᴰ·head refl))))
-        (λ m. out (listed-row o new m)))
+        (in-onto freeOf new ib (left-part ∷ rest ∷ ia) (inr (Memᴰ·append-right (freeOf i) (List·Memᴰ·head refl))))
+        (λ m. new-unused (listed-row o new m)))
         (grantedItem i width) refl
         (λ m. ⊎-elim
         (λ k. apart (i .row) k (List·Memᴰ·head refl))
-        (λ k. ⊎-elim (λ e. out (Memᴰ·cast (sym e) (at-in ib i ia o))) (dy .0) (List·Memᴰ·cases-cons k))
+        (λ k. ⊎-elim (λ e. new-unused (Memᴰ·cast (sym e) (at-in ib i ia o))) (once-from .0) (List·Memᴰ·cases-cons k))
         (onto-in one (i .row) fb (new ∷ fa) m)))
 
 -- ---- a release
@@ -79,21 +79,21 @@ module _ {I₀ I : List ℕ} {on : ℕ} {fl : List ℕ} {p : Pool Freed} {others
   push-open e out = enlist-open o (i .row) (in-onto freeOf (i .row) ib (i ∷ ia) (inr (rw e (List·Memᴰ·head refl)))) out
 
 -- a free next item merged into it
-pub next-open : {I₀ I : List ℕ} {on : ℕ} {p : Pool Freed} {others : List ℕ} (ib : List Item) (i n : Item) (ia : List Item) (fb fa : List ℕ)
-    → Open I₀ I on (backOnto ib (freeWith i (i .width) ∷ n ∷ ia)) (backOnto fb (n .row ∷ fa)) p others
-    → (h : Header) → h .«free_items» .0 ≡ firstRow freedRow (p .freed) → i .width + n .width ≤ 65535
-    → Open I₀ (joinNext h (unlist I (atRow (n .row))) (atRow (i .row))) on (backOnto ib (freeWith i (i .width + n .width) ∷ ia)) (backOnto fb fa)
-    (freeing (record { row = n .row; generation = n .generation }) p) others
+pub next-open : {I₀ I : List ℕ} {on : ℕ} {p : Pool Freed} {others : List ℕ} (ib : List Item) (i next-item : Item) (ia : List Item) (fb fa : List ℕ)
+    → Open I₀ I on (backOnto ib (freeWith i (i .width) ∷ next-item ∷ ia)) (backOnto fb (next-item .row ∷ fa)) p others
+    → (h : Header) → h .«free_items» .0 ≡ firstRow freedRow (p .freed) → i .width + next-item .width ≤ 65535
+    → Open I₀ (joinNext h (unlist I (atRow (next-item .row))) (atRow (i .row))) on (backOnto ib (freeWith i (i .width + next-item .width) ∷ ia)) (backOnto fb fa)
+    (freeing (record { row = next-item .row; generation = next-item .generation }) p) others
 unfolding freeWith
-next-open ib i n ia fb fa o h head narrow =
-    let (db, dy, apart) = onto-apart one fb (n .row ∷ fa) (o .free-once) in
-    join-open ib (freeWith i (i .width)) n ia (unlist-open fb (n .row) fa o)
-    (λ m. ⊎-elim (λ k. apart (n .row) k (List·Memᴰ·head refl)) (dy .0) (onto-in one (n .row) fb fa m)) h head narrow
+next-open ib i next-item ia fb fa o h head narrow =
+    let (once-before, once-from, apart) = onto-apart one fb (next-item .row ∷ fa) (o .free-once) in
+    join-open ib (freeWith i (i .width)) next-item ia (unlist-open fb (next-item .row) fa o)
+    (λ m. ⊎-elim (λ k. apart (next-item .row) k (List·Memᴰ·head refl)) (once-from .0) (onto-in one (next-item .row) fb fa m)) h head narrow
 
 -- it is merged into a free previous item
-pub into-open : {I₀ I : List ℕ} {on : ℕ} {fl : List ℕ} {p : Pool Freed} {others : List ℕ} (ib : List Item) (b i : Item) (ia : List Item)
-    → Open I₀ I on (backOnto ib (b ∷ i ∷ ia)) fl p others → b .live ≡ false → (i .row ∈ listed fl → ⊥)
-    → (h : Header) → h .«free_items» .0 ≡ firstRow freedRow (p .freed) → b .width + i .width ≤ 65535
-    → Open I₀ (joinNext h I (atRow (b .row))) on (backOnto ib (freeWith b (b .width + i .width) ∷ ia)) fl (freeing (record { row = i .row; generation = i .generation }) p) others
+pub into-open : {I₀ I : List ℕ} {on : ℕ} {fl : List ℕ} {p : Pool Freed} {others : List ℕ} (ib : List Item) (previous i : Item) (ia : List Item)
+    → Open I₀ I on (backOnto ib (previous ∷ i ∷ ia)) fl p others → previous .live ≡ false → (i .row ∈ listed fl → ⊥)
+    → (h : Header) → h .«free_items» .0 ≡ firstRow freedRow (p .freed) → previous .width + i .width ≤ 65535
+    → Open I₀ (joinNext h I (atRow (previous .row))) on (backOnto ib (freeWith previous (previous .width + i .width) ∷ ia)) fl (freeing (record { row = i .row; generation = i .generation }) p) others
 unfolding freeWith
-into-open ib b i ia o e out h head narrow = rw e at (join-open ib b i ia o out h head narrow)
+into-open ib previous i ia o e out h head narrow = rw e at (join-open ib previous i ia o out h head narrow)

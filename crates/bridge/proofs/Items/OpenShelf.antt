@@ -80,104 +80,104 @@ module _ {I₀ I : List ℕ} {on : ℕ} {is : List Item} {fl : List ℕ} {p : Po
         same = same′;
       }
 
-module _ {I₀ I : List ℕ} {on : ℕ} {is : List Item} {q : Pool Freed} {others : List ℕ} (fb : List ℕ) (x : ℕ) (fa : List ℕ)
-    (o : Open I₀ I on is (backOnto fb (x ∷ fa)) q others) where
-  abbrev p : ℕ
-  p = firstOf fb
+module _ {I₀ I : List ℕ} {on : ℕ} {is : List Item} {q : Pool Freed} {others : List ℕ} (fb : List ℕ) (row : ℕ) (fa : List ℕ)
+    (o : Open I₀ I on is (backOnto fb (row ∷ fa)) q others) where
+  abbrev prev : ℕ
+  prev = firstOf fb
 
-  abbrev n : ℕ
-  n = firstOf fa
+  abbrev next : ℕ
+  next = firstOf fa
 
   abbrev one : ℕ → List ℕ
   one r = r ∷ []
 
-  -- a row that is no free item's is next to no row of the free list
-  unlisted : (r : ℕ) → r ≢ noRow → (r ∈ freeRows is → ⊥) → (r ≢ p) × (r ≢ n)
+  -- a row that is no free item's is neither of the rows around this one in the free list
+  unlisted : (r : ℕ) → r ≢ noRow → (r ∈ freeRows is → ⊥) → (r ≢ prev) × (r ≢ next)
   unlisted r k out =
-      let known : (r ∈ listed fb) ⊎ (r ∈ listed (x ∷ fa)) → r ∈ freeRows is = λ w. o .only r (in-onto one r fb (x ∷ fa) w) in
+      let known : (r ∈ listed fb) ⊎ (r ∈ listed (row ∷ fa)) → r ∈ freeRows is = λ w. o .only r (in-onto one r fb (row ∷ fa) w) in
       (ne-first free fb r k (λ m. out (known (inl m))), ne-first free fa r k (λ m. out (known (inr (List·Memᴰ·tail m)))))
 
-  -- what the free links of row x say
-  pub links-are : linksOf (get items I x) ≡ record { prev = p; next = n }
-  links-are = chain-split free (λ r. linksOf (get items I r)) fb (x ∷ fa) (o .list) .1 .0
+  -- what the free links of the row say
+  pub links-are : linksOf (get items I row) ≡ record { prev = prev; next = next }
+  links-are = chain-split free (λ r. linksOf (get items I r)) fb (row ∷ fa) (o .list) .1 .0
 
-  listed-some : (r : ℕ) → r ∈ listed (backOnto fb (x ∷ fa)) → r ≢ noRow
+  listed-some : (r : ℕ) → r ∈ listed (backOnto fb (row ∷ fa)) → r ≢ noRow
   listed-some r m = some o r (listed-row o r m)
 
-  listed-there : (r : ℕ) → r ∈ listed (backOnto fb (x ∷ fa)) → ltb r (rows items I) ≡ true
+  listed-there : (r : ℕ) → r ∈ listed (backOnto fb (row ∷ fa)) → ltb r (rows items I) ≡ true
   listed-there r m = there o r (listed-row o r m)
 
-  -- row x taken out: the rows before and after it, p and n, are linked with each other
-  abbrev I₁ : List ℕ
-  I₁ = change items (change items I p (withNextFree (atRow n))) n (withPrevFree (atRow p))
+  -- the row taken out: the rows before and after it are linked with each other
+  abbrev after-unlist : List ℕ
+  after-unlist = change items (change items I prev (withNextFree (atRow next))) next (withPrevFree (atRow prev))
 
-  unlist-is : unlist I (atRow x) ≡ I₁
+  unlist-is : unlist I (atRow row) ≡ after-unlist
   unfolding unlist
-  unlist-is = rw (seen-prevFree (get items I x) links-are, seen-nextFree (get items I x) links-are)
+  unlist-is = rw (seen-prevFree (get items I row) links-are, seen-nextFree (get items I row) links-are)
 
-  pub unlist-open : Open I₀ (unlist I (atRow x)) on is (backOnto fb fa) q others
+  pub unlist-open : Open I₀ (unlist I (atRow row)) on is (backOnto fb fa) q others
   unfolding linksPrev linksNext
   unlist-open =
-      let (db, dy, apart) = onto-apart one fb (x ∷ fa) (o .free-once) in
+      let (once-before, once-from, apart) = onto-apart one fb (row ∷ fa) (o .free-once) in
       rw unlist-is
-      (relisted o I₁ (backOnto fb fa) (simp rows-change) (λ r. simp sights) (λ r k out. let (a, b) = unlisted r k out in simp sights)
-      (chain-remove free (λ r. linksOf (get items I r)) (λ r. linksOf (get items I₁ r)) fb x fa (o .free-once) listed-some
-      (linksNext n) (linksPrev p) (λ m y. refl) (λ y m. refl)
+      (relisted o after-unlist (backOnto fb fa) (simp rows-change) (λ r. simp sights) (λ r k out. let (a, b) = unlisted r k out in simp sights)
+      (chain-remove free (λ r. linksOf (get items I r)) (λ r. linksOf (get items after-unlist r)) fb row fa (o .free-once) listed-some
+      (linksNext next) (linksPrev prev) (λ m y. refl) (λ y m. refl)
       (λ r m a b c. simp sights)
       (λ r m a e c. rw (← e) (simp (sights, listed-there r m)))
       (λ r m a b e. rw (← e) (simp (sights, listed-there r m)))
       (o .list))
-      (apart-onto one fb fa db (dy .1) (λ r m k. apart r m (List·Memᴰ·tail k)))
-      (λ r m. o .only r (in-onto one r fb (x ∷ fa) (⊎-elim (λ k. inl k) (λ k. inr (List·Memᴰ·tail k)) (onto-in one r fb fa m)))))
+      (apart-onto one fb fa once-before (once-from .1) (λ r m k. apart r m (List·Memᴰ·tail k)))
+      (λ r m. o .only r (in-onto one r fb (row ∷ fa) (⊎-elim (λ k. inl k) (λ k. inr (List·Memᴰ·tail k)) (onto-in one r fb fa m)))))
 
-  -- row y in the place of row x
-  module _ (y : ℕ) (y-free : y ∈ freeRows is) (y-out : y ∈ listed (backOnto fb (x ∷ fa)) → ⊥) where
-    abbrev I₂ : List ℕ
-    I₂ = change items (change items (change items I y (withLinks (atRow p) (atRow n))) p (withNextFree (atRow y))) n (withPrevFree (atRow y))
+  -- a new row in its place
+  module _ (new : ℕ) (new-free : new ∈ freeRows is) (new-out : new ∈ listed (backOnto fb (row ∷ fa)) → ⊥) where
+    abbrev after-relist : List ℕ
+    after-relist = change items (change items (change items I new (withLinks (atRow prev) (atRow next))) prev (withNextFree (atRow new))) next (withPrevFree (atRow new))
 
-    relist-is : relist I (atRow x) (atRow y) ≡ I₂
+    relist-is : relist I (atRow row) (atRow new) ≡ after-relist
     unfolding relist
-    relist-is = rw (seen-prevFree (get items I x) links-are, seen-nextFree (get items I x) links-are)
+    relist-is = rw (seen-prevFree (get items I row) links-are, seen-nextFree (get items I row) links-are)
 
-    pub relist-open : Open I₀ (relist I (atRow x) (atRow y)) on is (backOnto fb (y ∷ fa)) q others
+    pub relist-open : Open I₀ (relist I (atRow row) (atRow new)) on is (backOnto fb (new ∷ fa)) q others
     unfolding linksPrev linksNext links
     relist-open =
-        let (db, dy, apart) = onto-apart one fb (x ∷ fa) (o .free-once) in
-        let in-b : (r : ℕ) → r ∈ listed fb → r ∈ listed (backOnto fb (x ∷ fa)) = λ r m. in-onto one r fb (x ∷ fa) (inl m) in
-        let in-a : (r : ℕ) → r ∈ listed fa → r ∈ listed (backOnto fb (x ∷ fa)) = λ r m. in-onto one r fb (x ∷ fa) (inr (List·Memᴰ·tail m)) in
-        let y-row : y ∈ itemRows is = free-row is y y-free in
-        let yp : y ≢ p = ne-first free fb y (some o y y-row) (λ m. y-out (in-b y m)) in
-        let yn : y ≢ n = ne-first free fa y (some o y y-row) (λ m. y-out (in-a y m)) in
+        let (once-before, once-from, apart) = onto-apart one fb (row ∷ fa) (o .free-once) in
+        let in-before : (r : ℕ) → r ∈ listed fb → r ∈ listed (backOnto fb (row ∷ fa)) = λ r m. in-onto one r fb (row ∷ fa) (inl m) in
+        let in-after : (r : ℕ) → r ∈ listed fa → r ∈ listed (backOnto fb (row ∷ fa)) = λ r m. in-onto one r fb (row ∷ fa) (inr (List·Memᴰ·tail m)) in
+        let new-row : new ∈ itemRows is = free-row is new new-free in
+        let new-prev : new ≢ prev = ne-first free fb new (some o new new-row) (λ m. new-out (in-before new m)) in
+        let new-next : new ≢ next = ne-first free fa new (some o new new-row) (λ m. new-out (in-after new m)) in
         rw relist-is
-        (relisted o I₂ (backOnto fb (y ∷ fa)) (simp rows-change) (λ r. simp sights)
-        (λ r k out. let (a, b) = unlisted r k out in let c : r ≢ y = (λ e. out (Memᴰ·cast e y-free)) in simp sights)
-        (chain-swap free (λ r. linksOf (get items I r)) (λ r. linksOf (get items I₂ r)) fb x y fa (o .free-once) listed-some
-        (linksNext y) (linksPrev y) (λ m z. refl) (λ z m. refl)
-        (λ r m a b c. let d : r ≢ y = not-out y-out m in simp sights)
-        (λ r m a e c. let d : r ≢ y = not-out y-out m in rw (← e) (simp (sights, listed-there r m)))
-        (λ r m a b e. let d : r ≢ y = not-out y-out m in rw (← e) (simp (sights, listed-there r m)))
-        (λ c. simp (sights, there o y y-row))
+        (relisted o after-relist (backOnto fb (new ∷ fa)) (simp rows-change) (λ r. simp sights)
+        (λ r k out. let (a, b) = unlisted r k out in let c : r ≢ new = (λ e. out (Memᴰ·cast e new-free)) in simp sights)
+        (chain-swap free (λ r. linksOf (get items I r)) (λ r. linksOf (get items after-relist r)) fb row new fa (o .free-once) listed-some
+        (linksNext new) (linksPrev new) (λ m z. refl) (λ z m. refl)
+        (λ r m a b c. let d : r ≢ new = not-out new-out m in simp sights)
+        (λ r m a e c. let d : r ≢ new = not-out new-out m in rw (← e) (simp (sights, listed-there r m)))
+        (λ r m a b e. let d : r ≢ new = not-out new-out m in rw (← e) (simp (sights, listed-there r m)))
+        (λ c. simp (sights, there o new new-row))
         (o .list))
-        (apart-onto one fb (y ∷ fa) db (λ m. y-out (in-a y m), dy .1)
-        (λ r m k. ⊎-elim (λ e. y-out (Memᴰ·cast (sym e) (in-b r m))) (λ w. apart r m (List·Memᴰ·tail w)) (List·Memᴰ·cases-cons k)))
-        (λ r m. ⊎-elim (λ k. o .only r (in-b r k)) (λ k. ⊎-elim (λ e. Memᴰ·cast e y-free) (λ w. o .only r (in-a r w)) (List·Memᴰ·cases-cons k)) (onto-in one r fb (y ∷ fa) m)))
+        (apart-onto one fb (new ∷ fa) once-before (λ m. new-out (in-after new m), once-from .1)
+        (λ r m k. ⊎-elim (λ e. new-out (Memᴰ·cast (sym e) (in-before r m))) (λ w. apart r m (List·Memᴰ·tail w)) (List·Memᴰ·cases-cons k)))
+        (λ r m. ⊎-elim (λ k. o .only r (in-before r k)) (λ k. ⊎-elim (λ e. Memᴰ·cast e new-free) (λ w. o .only r (in-after r w)) (List·Memᴰ·cases-cons k)) (onto-in one r fb (new ∷ fa) m)))
 
--- row y put in front of the free list
+-- a new row put in front of the free list
 module _ {I₀ I : List ℕ} {on : ℕ} {is : List Item} {fl : List ℕ} {p : Pool Freed} {others : List ℕ}
-    (o : Open I₀ I on is fl p others) (y : ℕ) (y-free : y ∈ freeRows is) (y-out : y ∈ listed fl → ⊥) where
-  pub enlist-open : Open I₀ (enlist I (atRow (firstOf fl)) (atRow y)) on is (y ∷ fl) p others
+    (o : Open I₀ I on is fl p others) (new : ℕ) (new-free : new ∈ freeRows is) (new-out : new ∈ listed fl → ⊥) where
+  pub enlist-open : Open I₀ (enlist I (atRow (firstOf fl)) (atRow new)) on is (new ∷ fl) p others
   unfolding enlist linksPrev links
   enlist-open =
-      let f : ℕ = firstOf fl in
-      let I₃ : List ℕ = change items (change items I f (withPrevFree (atRow y))) y (withLinks (atRow noRow) (atRow f)) in
-      let y-row : y ∈ itemRows is = free-row is y y-free in
-      relisted o I₃ (y ∷ fl) (simp rows-change) (λ r. simp sights)
-      (λ r k out. let a : r ≢ y = (λ e. out (Memᴰ·cast e y-free)) in let b : r ≢ f = ne-first free fl r k (λ m. out (o .only r m)) in simp sights) (
-        simp (sights, there o y y-row),
-        relink-after free (λ r. linksOf (get items I r)) (λ r. linksOf (get items I₃ r)) noRow y (linksPrev y) (λ z m. refl) fl (o .free-once)
-            (λ r m e. let d : r ≢ y = not-out y-out m in rw (← e) (simp (sights, there o r (listed-row o r m))))
-            (λ r m k. let d : r ≢ y = not-out y-out m in simp sights)
+      let first : ℕ = firstOf fl in
+      let after-enlist : List ℕ = change items (change items I first (withPrevFree (atRow new))) new (withLinks (atRow noRow) (atRow first)) in
+      let new-row : new ∈ itemRows is = free-row is new new-free in
+      relisted o after-enlist (new ∷ fl) (simp rows-change) (λ r. simp sights)
+      (λ r k out. let a : r ≢ new = (λ e. out (Memᴰ·cast e new-free)) in let b : r ≢ first = ne-first free fl r k (λ m. out (o .only r m)) in simp sights) (
+        simp (sights, there o new new-row),
+        relink-after free (λ r. linksOf (get items I r)) (λ r. linksOf (get items after-enlist r)) noRow new (linksPrev new) (λ z m. refl) fl (o .free-once)
+            (λ r m e. let d : r ≢ new = not-out new-out m in rw (← e) (simp (sights, there o r (listed-row o r m))))
+            (λ r m k. let d : r ≢ new = not-out new-out m in simp sights)
             (o .list),
       )
-      (y-out, o .free-once)
-      (λ r m. ⊎-elim (λ e. Memᴰ·cast e y-free) (o .only r) (List·Memᴰ·cases-cons m))
+      (new-out, o .free-once)
+      (λ r m. ⊎-elim (λ e. Memᴰ·cast e new-free) (o .only r) (List·Memᴰ·cases-cons m))
