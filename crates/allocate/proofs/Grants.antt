@@ -1,6 +1,7 @@
 -- Allocate: what the code does over the tables comes to what the rules say of the atlas that is met there. Assumes nothing.
-use Rattle.numbers.specs.Library.{ℕ, _≡_, refl, ap, _⊎_, inl, inr, Bool, true, false, not, List, ℤ}
-use Rattle.numbers.specs.Prelude.{pick, Decides, allowed, asked, Placeable, asked-placeable}
+use Rattle.numbers.specs.Library.{ℕ, _≡_, refl, sym, ap, _∙_, subst, _≢_, inl, inr, ⊎-elim, Bool, true, false, not, List, ℤ, eqb, eqb-true}
+use borrow.Author.Tests.{eqb-false}
+use Rattle.numbers.specs.Prelude.{pick, noRow, Decides, asked, Placeable, asked-placeable}
 use Rattle.numbers.specs.declared.request.Asked.{Asked}
 use Rattle.numbers.specs.declared.request.Request.the-variants as request
 use Rattle.rows.specs.declared.{header.Header.Header, live.Live.Live}
@@ -8,47 +9,54 @@ use Rattle.rules.specs.Prelude.{Outcome, refused, mapped, Given, roomIn, atlasI
 use Rattle.rules.specs.Prelude.{Answers, Leaves, headerKept, Asks, passes, Comes, Promise}
 use Rattle.rules.specs.Grant as rule
 use Rattle.rules.specs.Step.{item}
-use Rattle.shelf_edits.specs.State.{state}
-use Rattle.search.specs.Search.{search}
-use Rattle.spare.specs.Spare.{hasRows}
-use Rattle.grant.specs.Grant.{grantAt, grantedAt}
-use Rattle.grant.specs.declared.Granted.{Granted}
-use Rattle.search.specs.declared.{Place.Place, Held.Held}
-use Rattle.search.specs.declared.Held.the-variants.{Nothing, Good, Bad}
-use Rattle.bridge.proofs.Calls.{grant-nothing, grant-few, grant-placed}
+use Rattle.shelf_edits.specs.State.{state, Are}
+use Rattle.search.specs.Search.{Held, nothing, good, bad, IsHeld, placeOf, search}
+use Rattle.plan.specs.Plan.{planAt, hasRows}
+use Rattle.plan.specs.declared.Plan.{Plan}
+use Rattle.grant.specs.Grant.{PlanThere, grantAt}
+use Rattle.search.specs.declared.Place.{Place}
+use Rattle.search.proofs.InUse.{none-held, some-held}
+use Rattle.bridge.proofs.Search.Walkable.{walkable}
+use Rattle.bridge.proofs.Calls.{grant-nothing, grant-few, grant-placed, grant-there}
 use Rattle.promises.specs.Prelude.{grants, Allocates}
 use Rattle.promises.specs.declared.answers.Grant.the-variants as grant
 use Rattle.promises.specs.declared.answers.Allocated.{Allocated}
 use Rattle.promises.proofs.Numbered.{answered, allocate-numbered}
-use Rattle.promises.proofs.Cases.{unchanged, fails-first, refuses}
-use Rattle.allocate.specs.Placing.{RefusedWith, GrantedAt, GrantsThere, GrantsHeld, GrantsAsked}
+use Rattle.promises.proofs.Cases.{owed, unchanged, fails-first, refuses}
+use Rattle.allocate.specs.Placing.{RefusedWith, GrantedAs, GrantsAs, GrantsThere, GrantsHeld, GrantsAsked}
 
 -- ---- a request that passed checks 4 and 5, over the tables
 
 module _ (h : Header) (S I : List ℕ) (q : Asked) where
-  module _ (p : Place) where
-    pub refused-there : hasRows h S I p q ≡ false → (r : Allocated) → r ≡ record { answer = grant.Refused 7; header = h } → GrantsThere h S I q r S I p
+  module _ (p : Place) (plan : Plan) (planned : plan ≡ planAt h S I p q) where
+    pub refused-there : hasRows h S I plan ≡ false → (r : Allocated) → r ≡ record { answer = grant.Refused 7; header = h } → GrantsThere h S I q r S I p
     unfolding GrantsThere
-    refused-there e r is = rw (e, is) (refl, unchanged)
+    refused-there e r is = subst (GrantsAs h S I q r S I) planned (rw (e, is) (refl, unchanged))
 
-    pub granted-there : hasRows h S I p q ≡ true → (g : Granted) → g ≡ grantedAt (state h S I) p q
-        → (S′ I′ : List ℕ) → S′ ≡ grantAt (state h S I) p q .shelves → I′ ≡ grantAt (state h S I) p q .items
-        → GrantsThere h S I q (record { answer = grant.Granted (g .live); header = g .header }) S′ I′ p
-    unfolding GrantsThere grantedAt
-    granted-there e g is S′ I′ s i = rw (e, is) (refl, record { header = refl; shelves = s; items = i })
+    pub granted-there : hasRows h S I plan ≡ true → (header : Header) (S′ I′ : List ℕ) → Are (grantAt (state h S I) plan) header S′ I′
+        → GrantsThere h S I q (record { answer = grant.Granted (plan .live); header = header }) S′ I′ p
+    unfolding GrantsThere
+    granted-there e header S′ I′ are = subst (GrantsAs h S I q (record { answer = grant.Granted (plan .live); header = header }) S′ I′) planned (rw e (refl, are))
 
-  pub asked-none : search h S I q ≡ Nothing → (r : Allocated) → r ≡ record { answer = grant.Refused 6; header = h } → GrantsAsked h S I q r S I
-  unfolding GrantsAsked
-  asked-none e r is = rw (e, is) (refl, unchanged)
-
-  module _ (r : Allocated) (S′ I′ : List ℕ) (p : Place) where
-    pub asked-good : search h S I q ≡ Good p → GrantsThere h S I q r S′ I′ p → GrantsAsked h S I q r S′ I′
+  -- the place that the search answers, and the test whether its item is no row
+  module _ (pass : Passes h S I) (p : Place) (answered-so : p ≡ placeOf (search h S I q)) {none : Bool} (told : none ≡ eqb (p .item .0) noRow) where
+    pub asked-none : none ≡ true → (r : Allocated) → r ≡ record { answer = grant.Refused 6; header = h } → GrantsAsked h S I q r S I
     unfolding GrantsAsked
-    asked-good e there = rw e there
+    asked-none e r is =
+        let no-item : placeOf (search h S I q) .item .0 ≡ noRow = rw answered-so at (eqb-true (p .item .0) noRow (sym told ∙ e)) in
+        rw (none-held (walkable pass) q no-item, is) (refl, unchanged)
 
-    pub asked-bad : search h S I q ≡ Bad p → GrantsThere h S I q r S′ I′ p → GrantsAsked h S I q r S′ I′
+    pub asked-some : none ≡ false → (r : Allocated) (S′ I′ : List ℕ) → GrantsThere h S I q r S′ I′ p → GrantsAsked h S I q r S′ I′
     unfolding GrantsAsked
-    asked-bad e there = rw e there
+    asked-some e r S′ I′ there =
+        let item : placeOf (search h S I q) .item .0 ≢ noRow = rw answered-so at (eqb-false (p .item .0) noRow (sym told ∙ e)) in
+        ⊎-elim (λ (depth, k). rw k (rw answered-so at there)) (λ k. rw k (rw answered-so at there)) (some-held (walkable pass) q item)
+
+    -- what the grant there relies on
+    pub asked-there : none ≡ false → PlanThere S I (planAt h S I p q)
+    asked-there e =
+        let item : placeOf (search h S I q) .item .0 ≢ noRow = rw answered-so at (eqb-false (p .item .0) noRow (sym told ∙ e)) in
+        rw answered-so (grant-there h S I pass q (placeOf (search h S I q)) (some-held (walkable pass) q item))
 
 -- ---- as the rules grant it
 
@@ -62,10 +70,10 @@ module _ (h : Header) (S I : List ℕ) (p : Passes h S I) (w height : ℤ) (r : 
   refused-so q n (answer, same) = record { says = answered (allocate-numbered w height) (r .answer) (ap (grants .says) answer); leaves = same }
 
   module _ (q : Asked) (within : Placeable (h .limits) q) where
-    there : (at : Place) → (search h S I q ≡ Good at) ⊎ (search h S I q ≡ Bad at) → GrantsThere h S I q r S′ I′ at → AsRules (rule.grant (roomIn S I) (atlasIn h S I) q)
+    there : (at : Place) → IsHeld at (search h S I q) → GrantsThere h S I q r S′ I′ at → AsRules (rule.grant (roomIn S I) (atlasIn h S I) q)
     unfolding GrantsThere mapped Leaves tells grants
-    there at o had = go (hasRows h S I at q) refl had where
-      go : (b : Bool) → hasRows h S I at q ≡ b → pick b (GrantedAt h S I q r S′ I′ at) (RefusedWith h S I q r S′ I′ 7) → AsRules (rule.grant (roomIn S I) (atlasIn h S I) q)
+    there at o had = go (hasRows h S I (planAt h S I at q)) refl had where
+      go : (b : Bool) → hasRows h S I (planAt h S I at q) ≡ b → pick b (GrantedAs h S I q r S′ I′ (planAt h S I at q)) (RefusedWith h S I q r S′ I′ 7) → AsRules (rule.grant (roomIn S I) (atlasIn h S I) q)
       go true e (answer, are) =
           let (a′, is, becomes) = grant-placed h S I p q within at o e in
           rw is (record {
@@ -78,26 +86,26 @@ module _ (h : Header) (S I : List ℕ) (p : Passes h S I) (w height : ℤ) (r : 
     unfolding GrantsAsked GrantsHeld
     as-rules had = go (search h S I q) refl had where
       go : (x : Held) → search h S I q ≡ x → GrantsHeld h S I q r S′ I′ x → AsRules (rule.grant (roomIn S I) (atlasIn h S I) q)
-      go Nothing e had = rw (grant-nothing h S I p q e) (refused-so q 6 had)
-      go (Good at) e had = there at (inl e) had
-      go (Bad at) e had = there at (inr e) had
+      go nothing e had = rw (grant-nothing h S I p q e) (refused-so q 6 had)
+      go (good at depth) e had = there at (inl (depth, e)) had
+      go (bad at) e had = there at (inr e) had
 
 -- ---- 3, then 4 and 5, then what the atlas gives
 
-module _ (h : Header) (S I : List ℕ) {test : Bool} (d : Decides test (Passes h S I)) (w height : ℤ) where
-  pub allocates-3 : not test ≡ true → (r : Allocated) → r ≡ record { answer = grant.Refused 3; header = h } → Allocates h S I w height r S I
+module _ (h : Header) (S I : List ℕ) (w height : ℤ) where
+  pub allocates-3 : {test : Bool} → Decides test (Passes h S I) → not test ≡ true → (r : Allocated) → r ≡ record { answer = grant.Refused 3; header = h } → Allocates h S I w height r S I
   unfolding Allocates Asks stepWithout isCreate grants
-  allocates-3 e r is = rw is (fails-first (Allocate w height) _ h S I d e refl refl (answered (allocate-numbered w height) (grant.Refused 3) refl))
+  allocates-3 d e r is = rw is (fails-first (Allocate w height) _ h S I d e refl refl (answered (allocate-numbered w height) (grant.Refused 3) refl))
 
-  pub allocates-asked : not test ≡ false → (q : Asked) → asked (h .limits) w height ≡ request.Good q
-      → (r : Allocated) (S′ I′ : List ℕ) → GrantsAsked h S I q r S′ I′ → Allocates h S I w height r S′ I′
-  unfolding Allocates Promise Asks step stepIn allocate atlasIn
-  allocates-asked passed q e r S′ I′ had =
-      let p = allowed d passed in
-      passes p (rw (e, allocate) (as-rules h S I p w height r S′ I′ q (asked-placeable (h .limits) q (p .rule1 .limits) w height e) had))
+  module _ (p : Passes h S I) where
+    pub allocates-asked : (q : Asked) → asked (h .limits) w height ≡ request.Good q
+        → (r : Allocated) (S′ I′ : List ℕ) → GrantsAsked h S I q r S′ I′ → Allocates h S I w height r S′ I′
+    unfolding Allocates Promise Asks step stepIn allocate atlasIn
+    allocates-asked q e r S′ I′ had =
+        passes p (rw (e, allocate) (as-rules h S I p w height r S′ I′ q (asked-placeable (h .limits) q (p .rule1 .limits) w height e) had))
 
-  pub allocates-refused : not test ≡ false → (n : ℕ) → asked (h .limits) w height ≡ request.Refused n
-      → (r : Allocated) → r ≡ record { answer = grant.Refused n; header = h } → Allocates h S I w height r S I
-  unfolding Allocates Asks stepIn allocate atlasIn mapped isCreate grants
-  allocates-refused passed n e r is =
-      rw is (refuses (Allocate w height) _ h S I d passed n (λ p. rw (e, allocate)) refl (answered (allocate-numbered w height) (grant.Refused n) refl))
+    pub allocates-refused : (n : ℕ) → asked (h .limits) w height ≡ request.Refused n
+        → (r : Allocated) → r ≡ record { answer = grant.Refused n; header = h } → Allocates h S I w height r S I
+    unfolding Allocates Asks stepIn allocate atlasIn mapped isCreate grants
+    allocates-refused n e r is =
+        rw is (refuses (Allocate w height) _ h S I (owed p) refl n (λ p. rw (e, allocate)) refl (answered (allocate-numbered w height) (grant.Refused n) refl))

@@ -2,7 +2,6 @@
 ghost use Rattle.numbers.specs.Prelude.{Decides};
 ghost use Rattle.rules.specs.Prelude.{Rule1, Passes, PassesForClear};
 ghost use Rattle.audit.specs.Verdicts.{Exact};
-use numbers::limits;
 use rows::header::Header;
 use rows::item;
 use rows::shelf;
@@ -26,7 +25,7 @@ pub fn header_right(h: Header, shelves: &[u16], items: &[u16]) -> bool
     if item::item_capacity(items) < h.used_items {
         return false;
     }
-    limits::within_limits(h.limits)
+    limit_checks::within_limits(h.limits)
 }
 
 // What clear asks: rule 1, and a row for each column in each table.
@@ -36,7 +35,7 @@ pub fn passes_for_clear(h: Header, shelves: &[u16], items: &[u16]) -> bool
     if !header_right(h, shelves, items) {
         return false;
     }
-    let columns = limits::columns(h.limits);
+    let columns = limit_checks::columns(h.limits);
     if shelf::shelf_capacity(shelves) < columns {
         return false;
     }

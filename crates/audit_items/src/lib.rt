@@ -13,7 +13,6 @@ use numbers::axes;
 use numbers::index::ItemIndex;
 use numbers::index::NO_ROW;
 use numbers::index::ShelfIndex;
-use numbers::limits;
 use rows::header::Header;
 use rows::item;
 use rows::item::ItemRow;
@@ -52,7 +51,7 @@ fn item_right(h: Header, on: u16, prev: u16, x: u32, i: ItemRow) -> bool
     if i.x as u32 != x {
         return false;
     }
-    let step = limits::along_step(h.limits);
+    let step = limit_checks::along_step(h.limits);
     aligned(i.width as u32, step)
 }
 

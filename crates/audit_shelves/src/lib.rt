@@ -5,7 +5,6 @@ ghost use Rattle.rules.specs.Prelude.{ShelfRight, Rule2, oneFree, flag};
 use numbers::index::ItemIndex;
 use numbers::index::NO_ROW;
 use numbers::index::ShelfIndex;
-use numbers::limits;
 use rows::header::Header;
 use rows::item;
 use rows::shelf;
@@ -99,5 +98,5 @@ pub fn shelves_right(h: Header, shelves: &[u16], items: &[u16]) -> bool
     if y != 0 {
         return false;
     }
-    column == limits::columns(h.limits)
+    column == limit_checks::columns(h.limits)
 }

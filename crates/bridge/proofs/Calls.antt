@@ -1,6 +1,6 @@
 -- What each call comes to: where the audit passes, the steps over header and tables answer and leave what the rules say of the atlas that is met
 -- there. These are the statements that other crates cite. Assumes nothing.
-use Rattle.numbers.specs.Library.{ℕ, _*_, _≤_, _≡_, refl, _⊎_, true, false, List, eqb}
+use Rattle.numbers.specs.Library.{ℕ, _*_, _≤_, _≡_, refl, true, false, List, eqb}
 use Rattle.numbers.specs.Prelude.{pick, Placeable, columns, WithinLimits, spaceLeft}
 use Rattle.numbers.specs.declared.{limits.Limits.Limits, request.Asked.Asked}
 use Rattle.rows.specs.Prelude.{rows, items, shelves}
@@ -11,13 +11,13 @@ use Rattle.laws.specs.Same.{SameUsed}
 use Rattle.laws.proofs.Stored.Reading.{reads, formed}
 use Rattle.shelf_edits.specs.State.{state}
 use Rattle.init.specs.Init.{freshHeader, freshShelfTable, freshItemTable}
-use Rattle.search.specs.Search.{search}
-use Rattle.spare.specs.Spare.{hasRows}
-use Rattle.live.specs.Live.{atRow, isLive, liveAt, isVacant, rowsListed}
-use Rattle.grant.specs.Grant.{grantAt, grantedAt}
+use Rattle.search.specs.Search.{search, nothing, IsHeld}
+use Rattle.plan.specs.Plan.{planAt, hasRows}
+use Rattle.live_rows.specs.Live.{atRow, isLive, liveAt, isVacant, LiveRowsThere, rowsListed}
+use Rattle.grant.specs.Grant.{PlanThere, grantAt}
 use Rattle.merge.specs.Merge.{releaseAt}
+use Rattle.merge.specs.Releasable.{Releasable}
 use Rattle.search.specs.declared.Place.{Place}
-use Rattle.search.specs.declared.Held.the-variants.{Nothing, Good, Bad}
 use Rattle.bridge.proofs.Outcome as outcome
 use Rattle.bridge.proofs.CreateClear as create-clear
 use Rattle.bridge.proofs.Queries as queries
@@ -54,19 +54,24 @@ unfolding atlasIn
 limits-are h S I = refl
 
 module _ (h : Header) (S I : List ℕ) (p : Passes h S I) (q : Asked) where
-  pub grant-nothing : search h S I q ≡ Nothing → grant (roomIn S I) (atlasIn h S I) q ≡ refused 6
+  pub grant-nothing : search h S I q ≡ nothing → grant (roomIn S I) (atlasIn h S I) q ≡ refused 6
   grant-nothing = place-or-refusal.refuses-6 h S I (atlasIn h S I) (reads h S I p) (formed h S I p) q
 
-  pub grant-few : (at : Place) → (search h S I q ≡ Good at) ⊎ (search h S I q ≡ Bad at) → hasRows h S I at q ≡ false → grant (roomIn S I) (atlasIn h S I) q ≡ refused 7
+  pub grant-few : (at : Place) → IsHeld at (search h S I q) → hasRows h S I (planAt h S I at q) ≡ false → grant (roomIn S I) (atlasIn h S I) q ≡ refused 7
   grant-few at o =
       place-or-refusal.refuses-7 h S I (atlasIn h S I) (reads h S I p) (formed h S I p) q at (place-or-refusal.place-held h S I (atlasIn h S I) (reads h S I p) (formed h S I p) q at o)
 
-  pub grant-placed : Placeable (h .limits) q → (at : Place) → (search h S I q ≡ Good at) ⊎ (search h S I q ≡ Bad at) → hasRows h S I at q ≡ true
+  pub grant-placed : Placeable (h .limits) q → (at : Place) → IsHeld at (search h S I q) → hasRows h S I (planAt h S I at q) ≡ true
       → (a′ : Atlas)
-      × (grant (roomIn S I) (atlasIn h S I) q ≡ grants (grantedAt (state h S I) at q .live) a′)
-      × Becomes S I (grantAt (state h S I) at q .header) (grantAt (state h S I) at q .shelves) (grantAt (state h S I) at q .items) a′
+      × (grant (roomIn S I) (atlasIn h S I) q ≡ grants (planAt h S I at q .live) a′)
+      × Becomes S I (grantAt (state h S I) (planAt h S I at q) .header) (grantAt (state h S I) (planAt h S I at q) .shelves) (grantAt (state h S I) (planAt h S I at q) .items) a′
   grant-placed within at o =
-      whole-grant.grant-done h S I (atlasIn h S I) (reads h S I p) (formed h S I p) q (rw limits-are within) at (place-or-refusal.place-held h S I (atlasIn h S I) (reads h S I p) (formed h S I p) q at o)
+      whole-grant.grant-done h S I (atlasIn h S I) (reads h S I p) (formed h S I p) q at (place-or-refusal.place-held h S I (atlasIn h S I) (reads h S I p) (formed h S I p) q at o) (rw limits-are within)
+
+  -- what the grant relies on
+  pub grant-there : (at : Place) → IsHeld at (search h S I q) → PlanThere S I (planAt h S I at q)
+  grant-there at o =
+      whole-grant.plan-there h S I (atlasIn h S I) (reads h S I p) (formed h S I p) q at (place-or-refusal.place-held h S I (atlasIn h S I) (reads h S I p) (formed h S I p) q at o)
 
 -- ---- release and look-up
 
@@ -74,14 +79,20 @@ module _ (h : Header) (S I : List ℕ) (p : Passes h S I) (row generation : ℕ)
   pub release-none : isLive h I row generation ≡ false → release (atlasIn h S I) row generation ≡ refused 8
   release-none = queries.release-none h S I p row generation
 
+  -- what a release asks
+  pub releasable : isLive h I row generation ≡ true → Releasable h S I (atRow row)
+  releasable e =
+      let (w, f, found, live) = queries.finds-live h S I p row generation e in
+      whole-release.releasable h S I (atlasIn h S I) (reads h S I p) (formed h S I p) row w found live
+
   pub release-done : isLive h I row generation ≡ true
       → (a′ : Atlas)
       × (release (atlasIn h S I) row generation ≡ gives a′)
       × Becomes S I (releaseAt (state h S I) (atRow row) .header) (releaseAt (state h S I) (atRow row) .shelves) (releaseAt (state h S I) (atRow row) .items) a′
   unfolding release
   release-done e =
-      let (w, f, found, live) = queries.finds-live h S I p row generation e in
-      (releaseFound (atlasIn h S I) w, rw (f, release), whole-release.release-becomes h S I (atlasIn h S I) (reads h S I p) (formed h S I p) row w found live)
+      let (spot, finds, found, live) = queries.finds-live h S I p row generation e in
+      (releaseFound (atlasIn h S I) spot, rw (finds, release), whole-release.release-becomes h S I (atlasIn h S I) (reads h S I p) (formed h S I p) row spot found live)
 
   pub look-none : isLive h I row generation ≡ false → lookUp (atlasIn h S I) row generation ≡ refused 8
   look-none = queries.look-none h S I p row generation
@@ -92,6 +103,10 @@ module _ (h : Header) (S I : List ℕ) (p : Passes h S I) (row generation : ℕ)
 -- ---- list, totals, size, is_empty
 
 module _ (h : Header) (S I : List ℕ) (p : Passes h S I) where
+  -- each row that is read for a live item, in a release, a look-up or a list, is there
+  pub rows-there : LiveRowsThere h S I
+  rows-there = queries.rows-there h S I p
+
   pub list-is : list (atlasIn h S I) ≡ rowsListed h S I (h .«used_items»)
   list-is = queries.list-is h S I p
 

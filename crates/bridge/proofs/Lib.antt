@@ -7,7 +7,6 @@ pub mod Search
 pub mod Outcome
 pub mod CreateClear
 pub mod Queries
-pub mod LinksWithin
 pub mod UsedLinks
 pub mod MergeBounds
 pub mod ReleaseWrites

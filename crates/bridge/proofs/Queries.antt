@@ -11,7 +11,8 @@ use Rattle.rules.specs.Prelude.{sizeY, allEmpty, headerOf, Filled, NotBothFree,
 use Rattle.laws.proofs.Stored.Reading.{reads, formed}
 use Rattle.laws.proofs.Shape.Finding.{FoundAt}
 use Rattle.laws.proofs.Shape.Columns.{Placed, stacked-placed}
-use Rattle.live.specs.Live.{isLive, liveAt, isVacant, rowsListed}
+use Rattle.live_rows.specs.Live.{isLive, liveAt, isVacant, LiveRowsThere, rowsListed}
+use Rattle.bridge.proofs.Search.LookUp as at-look-up
 use Rattle.bridge.proofs.Search.LookUp.{told, LiveSays, live-says}
 use Rattle.bridge.proofs.Search.Listing.{list-says}
 use Rattle.bridge.proofs.Items.NoWrap.{occupied-within}
@@ -52,10 +53,13 @@ module _ (h : Header) (S I : List ℕ) (p : Passes h S I) (row generation : ℕ)
   pub look-some : isLive h I row generation ≡ true → lookUp a row generation ≡ gives (liveAt h S I row)
   unfolding lookUp
   look-some e =
-      let (w, f, found, live) = finds-live e in
-      rw (f, lookUp, told h S I a (reads h S I p) (formed h S I p) w row found)
+      let (spot, finds, found, live) = finds-live e in
+      rw (finds, lookUp, told h S I a (reads h S I p) (formed h S I p) spot row found)
 
 module _ (h : Header) (S I : List ℕ) (p : Passes h S I) where
+  pub rows-there : LiveRowsThere h S I
+  rows-there = at-look-up.rows-there h S I (atlasIn h S I) (reads h S I p) (formed h S I p)
+
   pub list-is : list (atlasIn h S I) ≡ rowsListed h S I (h .«used_items»)
   list-is = list-says h S I (atlasIn h S I) (reads h S I p) (formed h S I p)
 

@@ -1,30 +1,31 @@
 -- A release as a whole, in two steps: the item is made free and merged with its neighbours on its shelf, then the shelf, where that left it empty, with
--- the empty shelves around it. What both leave in header and tables is the atlas that the rules make. Assumes nothing.
-use Rattle.numbers.specs.Library.{ℕ, _≤_, _<_, _≡_, refl, sym, ap, subst, inl, inr, true, some, List, [], _∷_, List·Memᴰ·head, Memᴰ·append-left, arith}
-use Rattle.numbers.specs.declared.index.ShelfIndex.{ShelfIndex}
-use Rattle.chains.specs.Prelude.{_∈_, backOnto}
+-- the empty shelves around it. Header and tables in which the atlas is stored have what that asks (`releasable`), and what both steps leave there is the
+-- atlas that the rules make. Assumes nothing.
+use Rattle.numbers.specs.Library.{ℕ, _≤_, _<_, _≡_, refl, sym, ap, _∙_, subst, inr, true, some, List, [], _∷_, List·Memᴰ·head, Memᴰ·append-left, arith}
+use Rattle.numbers.specs.declared.{index.ItemIndex.ItemIndex, index.ShelfIndex.ShelfIndex}
+use Rattle.chains.specs.Prelude.{_∈_, backOnto, firstRow}
 use Rattle.chains.proofs.Prelude.{in-onto, each-split, self}
-use Rattle.rows.specs.Prelude.{get, items, shelves}
+use Rattle.rows.specs.Prelude.{get, items, shelves, Past, Below, LinksWithin}
 use Rattle.rows.specs.declared.{header.Header.Header, shelf.ShelfRow.ShelfRow}
-use Rattle.rules.specs.Prelude.{Item, Shelf, Atlas, holding, Loose, Stack, Found, mergeNext, mergeInto, mergeBelow, mergeAbove, releaseFound, free, Stores}
+use Rattle.rules.specs.Prelude.{Item, Shelf, Atlas, holding, Loose, Stack, Found, mergeNext, mergeInto, mergeBelow, mergeAbove, releaseFound, item, free, shelf, Stores}
 use Rattle.rules.specs.Prelude.{headerOf, roomIn, itemRows, allItemRows, AllListed, FreeListed, Shaped, WellFormed, Becomes}
 use Rattle.rules.proofs.LiveRows.{free-row}
 use Rattle.laws.proofs.Shape.Finding.{FoundAt}
 use Rattle.laws.proofs.Shape.Columns.{Placed, stacked-placed}
 use Rattle.laws.proofs.Shape.ReleaseShaped.{release-shape}
 use Rattle.shelf_edits.specs.State.{State, state}
-use Rattle.live.specs.Live.{atRow}
+use Rattle.live_rows.specs.Live.{atRow}
+use Rattle.merge.specs.Releasable.{Releasable}
 use Rattle.merge.specs.Merge.{mergeBelow as mergeBelowAt, mergeAbove as mergeAboveAt, releaseItem, releaseAt}
 use Rattle.bridge.proofs.Search.LookUp.{found-used}
 use Rattle.bridge.proofs.Items.NoWrap.{shaped-narrow, shelf-narrow, NarrowShelf}
-use Rattle.bridge.proofs.Stands.{Stands, onRow, shelf-says}
+use Rattle.bridge.proofs.Stands.{Stands, onRow, used-shelves, shelf-says}
 use Rattle.bridge.proofs.Items.WholeOrPart.{names-shelf}
 use Rattle.bridge.proofs.Items.MergesKeep.{itemsOf}
 use Rattle.bridge.proofs.Items.ReleaseItem.{release-stands}
 use Rattle.bridge.proofs.LeadsTo.{Leads, leads-then}
 use Rattle.bridge.proofs.Shelves.MergeNeighbours.{merge-both}
 use Rattle.bridge.proofs.Outcome.{becomes}
-use Rattle.bridge.proofs.LinksWithin.{Below}
 use Rattle.bridge.proofs.UsedLinks.{first-below, links-within, head-below}
 use Rattle.bridge.proofs.ReleaseWrites.{released-items, released-shelves}
 use Rattle.bridge.proofs.MergeBounds.{SameUse, loose-use, stack-use, low-below, low-above}
@@ -75,17 +76,47 @@ module _ (h : Header) (S I : List ℕ) (a : Atlas) (stored : Stores h S I a) (fo
   narrow-here : NarrowShelf s
   narrow-here = shelf-narrow a (formed .shaped) (spot .shelf .before) s (spot .shelf .after) shelves-are
 
-  -- its free list starts with a row in use, or with none
-  free-head : Below (a .rows .items .used) (get shelves S (s .row) .«first_unallocated» .0)
-  free-head =
-      let mine : (r : ℕ) → r ∈ s .free → r ∈ itemRows (s .items) = λ r mem. free-row (s .items) r (listed .only r mem) in
-      subst (Below (a .rows .items .used)) (sym (ap (λ (v : ShelfRow). v .«first_unallocated» .0) (shelf-says st a stands (spot .shelf .before) s (spot .shelf .after) shelves-are)))
-      (first-below free (a .rows .items .used) (s .free) (λ r mem. formed .sound .item-rows .serving-used r
-      (rw shelves-are (in-onto (λ (q : Shelf). itemRows (q .items)) r (spot .shelf .before) (s ∷ spot .shelf .after) (inr (Memᴰ·append-left (allItemRows (spot .shelf .after)) (mine r (rw self at mem))))))))
+  -- ---- so a release may be made: the rows that it reaches are used ones
 
-  freed-head : Below (a .rows .items .used) (h .«free_items» .0)
+  used-is : a .rows .items .used ≡ h .«used_items»
   unfolding headerOf
-  freed-head = subst (Below (a .rows .items .used)) (sym (ap (λ (q : Header). q .«free_items» .0) (stored .header))) (head-below st a stands (formed .shaped .all-listed))
+  used-is = sym (ap (λ (q : Header). q .«used_items») (stored .header))
+
+  -- a shelf's own item rows
+  own-used : (r : ℕ) → r ∈ itemRows (s .items) → r < h .«used_items»
+  own-used r mem =
+      omega (
+        arith,
+        used-is,
+        formed .sound .item-rows .serving-used r
+            (rw shelves-are (in-onto (λ (q : Shelf). itemRows (q .items)) r (spot .shelf .before) (s ∷ spot .shelf .after) (inr (Memᴰ·append-left (allItemRows (spot .shelf .after)) mem)))),
+      )
+
+  -- a link that the shelf's row says, by what it is there
+  shelf-link : (link : ShelfRow → ItemIndex) → Below (h .«used_items») (link (shelf .says (firstRow (shelf .row) (spot .shelf .before)) s (firstRow (shelf .row) (spot .shelf .after))) .0)
+      → Below (h .«used_items») (link (get shelves S (s .row)) .0)
+  shelf-link link = subst (λ (v : ShelfRow). Below (h .«used_items») (link v .0)) (sym (shelf-says st a stands (spot .shelf .before) s (spot .shelf .after) shelves-are))
+
+  on-its-shelf : get items I (i .row) .shelf ≡ onRow (s .row)
+  on-its-shelf = names-shelf st a (spot .shelf) (spot .item) shelves-are items-are stands
+
+  may-release : Releasable h S I (atRow (i .row))
+  unfolding headerOf
+  may-release = record {
+    links = subst (λ (n : ℕ). LinksWithin n I I) used-is (links-within st a stands (formed .shaped .all-listed) (omega (arith, item-used)));
+    freed =
+        subst (λ (n : ℕ). Below n (h .«free_items» .0)) used-is
+        (subst (Below (a .rows .items .used)) (sym (ap (λ (q : Header). q .«free_items» .0) (stored .header))) (head-below st a stands (formed .shaped .all-listed)));
+    used = omega (arith, used-is, item-used);
+    on-shelf = rw on-its-shelf (omega (arith, shelf-used, used-shelves st a stands));
+    first-free =
+        rw on-its-shelf
+        (shelf-link (λ (v : ShelfRow). v .«first_unallocated») (first-below free (h .«used_items») (s .free) (λ r mem. own-used r (free-row (s .items) r (listed .only r (rw self at mem))))));
+    first-item = rw on-its-shelf (shelf-link (λ (v : ShelfRow). v .«first_item») (first-below (item (s .row)) (h .«used_items») (s .items) own-used));
+  }
+
+  pub releasable : Releasable h S I (atRow row)
+  releasable = subst (λ (r : ℕ). Releasable h S I (atRow r)) (found .2) may-release
 
   -- ---- the first step: the item loosened
 
@@ -109,7 +140,9 @@ module _ (h : Header) (S I : List ℕ) (a : Atlas) (stored : Stores h S I a) (fo
   loosened = record {
     stands = release-stands st a spot shelves-are items-are was-live all stands narrow-here (shaped-narrow a (formed .shaped) .total);
     shelves-past = released-shelves st (onRow (s .row)) (atRow (i .row)) (loose .rows .shelves .used) (omega (arith, as-used .shelves, shelf-used));
-    items-past = rw (as-used .items) (released-items st (onRow (s .row)) (atRow (i .row)) (a .rows .items .used) (links-within st a stands (formed .shaped .all-listed) (omega (arith, item-used))) freed-head free-head (inl item-used));
+    items-past =
+        subst (λ (n : ℕ). Past items n I (loosened-state .items)) (sym used-is ∙ sym (as-used .items))
+        (released-items st (onRow (s .row)) (atRow (i .row)) may-release (sym on-its-shelf));
   }
 
   -- ---- the second step: the shelves merged
@@ -142,7 +175,7 @@ module _ (h : Header) (S I : List ℕ) (a : Atlas) (stored : Stores h S I a) (fo
 
   leads : Leads st (releaseAt st (atRow (i .row))) released-atlas
   leads =
-      rw (release-step st (s .row) (i .row) (names-shelf st a (spot .shelf) (spot .item) shelves-are items-are stands))
+      rw (release-step st (s .row) (i .row) on-its-shelf)
       (leads-then (omega (arith, stack-use stack .shelves)) (omega (arith, stack-use stack .items)) loosened merged)
 
   pub release-becomes : Becomes S I (releaseAt st (atRow row) .header) (releaseAt st (atRow row) .shelves) (releaseAt st (atRow row) .items) (releaseFound a spot)

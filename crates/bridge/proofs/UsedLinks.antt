@@ -12,7 +12,7 @@ use Rattle.rules.proofs.LiveRows.{free-row}
 use Rattle.laws.proofs.Stored.Determined.{live-or-free}
 use Rattle.shelf_edits.specs.State.{State}
 use Rattle.bridge.proofs.Stands.{Stands, used-items}
-use Rattle.bridge.proofs.LinksWithin.{Below, Linked, LinksWithin}
+use Rattle.rows.specs.Prelude.{Below, Linked, LinksWithin}
 
 -- ---- along a chain
 

@@ -14,6 +14,11 @@ abbrev pub Ends : (ℕ → ℕ) → ℕ → List ℕ → Type 0
 Ends next used [] = Unit {0}
 Ends next used (r ∷ rest) = (r < used) × (next r ≡ firstOf rest) × Ends next used rest
 
+-- The chain from row `at` on ends, among `used` rows: at most so many are met, and the last names no row.
+pub record EndsFrom (next : ℕ → ℕ) (used at : ℕ) : Type 0 where
+  pub starts : firstOf (rowsFrom next used at) ≡ at
+  pub ends : Ends next used (rowsFrom next used at)
+
 -- Along these rows, from the state `s` on: each is right in the state in which it is met, and the state after the last is a good end.
 abbrev pub Holds : {σ : Type 0} → (σ → ℕ → Type 0) → (σ → ℕ → σ) → (σ → Type 0) → σ → List ℕ → Type 0
 Holds right over good s [] = good s

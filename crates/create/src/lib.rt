@@ -4,7 +4,6 @@ ghost use Rattle.rows.specs.Prelude.{zeroHeader};
 ghost use Rattle.promises.specs.Prelude.{Creates, Clears};
 ghost use Rattle.promises.specs.declared.answers.Creation.the-variants as creation;
 ghost use Rattle.create.specs.Making.{MakesWithin};
-use numbers::limits;
 use numbers::limits::Limited;
 use numbers::limits::Limits;
 use numbers::refusal;
@@ -30,7 +29,7 @@ fn refused(number: u16) -> Created
 fn make_within(shelves: &mut [u16], items: &mut [u16], l: Limits) -> Created
     ensures { λ r. ⌜ MakesWithin (now (shelves .entry)) (now (items .entry)) r (now (shelves .exit)) (now (items .exit)) l ⌝ }
 {
-    let n = limits::columns(l);
+    let n = limit_checks::columns(l);
     if shelf::shelf_capacity(shelves) < n {
         return refused(refusal::TOO_FEW_ROWS);
     }
@@ -56,7 +55,7 @@ pub fn create(
 ) -> Created
     ensures { λ r. ⌜ Creates (now (shelves .entry)) (now (items .entry)) w h «align_width» «align_height» vertical columns r (now (shelves .exit)) (now (items .exit)) ⌝ }
 {
-    let made = limits::create_numbers(w, h, align_width, align_height, vertical, columns);
+    let made = limit_checks::create_numbers(w, h, align_width, align_height, vertical, columns);
     match made {
         Limited::Within(l) => {
             return make_within(shelves, items, l);
@@ -77,7 +76,7 @@ pub fn clear(h: Header, shelves: &mut [u16], items: &mut [u16]) -> Replied
         };
     }
     let l = h.limits;
-    let n = limits::columns(l);
+    let n = limit_checks::columns(l);
     init::init(shelves, items, l, n);
     Replied {
         answer: Reply::Done,

@@ -1,1 +1,2 @@
 pub mod ItemEdits
+pub mod LinksKept

@@ -5,7 +5,9 @@ use Rattle.numerals.specs.Numeral.{numberOf}
 use Rattle.numerals.specs.declared.Number.{Number}
 use Rattle.numerals.specs.declared.Number.the-variants.{NoNumber, Is}
 use Rattle.lines.specs.declared.{command.CreateArgs.CreateArgs, command.Command.Command}
-use Rattle.lines.specs.declared.command.Command.the-variants.{Bad, Create, Ask, Release, Look, Space, List as Listing, Clear}
+use Rattle.lines.specs.declared.command.Command.the-variants.{Bad, Tell, Change}
+use Rattle.lines.specs.declared.command.Tell.the-variants.{Look, Space, List as Listing}
+use Rattle.lines.specs.declared.command.Change.the-variants.{Create, Ask, Release, Clear}
 
 -- ---- words
 
@@ -48,16 +50,16 @@ numbersOf (w ∷ ws) = withNumber (numberOf w) (numbersOf ws)
 -- alone: s, l, c
 unfoldable pub ofNone : ℕ → Command
 ofNone letter =
-    pick (eqb letter 115) Space (pick (eqb letter 108) Listing (pick (eqb letter 99) Clear Bad))
+    pick (eqb letter 115) (Tell Space) (pick (eqb letter 108) (Tell Listing) (pick (eqb letter 99) (Change Clear) Bad))
 
 -- with two numbers: a w h, r row gen, g row gen
 unfoldable pub ofTwo : ℕ → ℤ → ℤ → Command
 ofTwo letter x y =
-    pick (eqb letter 97) (Ask x y) (pick (eqb letter 114) (Release x y) (pick (eqb letter 103) (Look x y) Bad))
+    pick (eqb letter 97) (Change (Ask x y)) (pick (eqb letter 114) (Change (Release x y)) (pick (eqb letter 103) (Tell (Look x y)) Bad))
 
 -- with six: n
 unfoldable pub ofSix : ℕ → CreateArgs → Command
-ofSix letter args = pick (eqb letter 110) (Create args) Bad
+ofSix letter args = pick (eqb letter 110) (Change (Create args)) Bad
 
 abbrev pub at : List ℤ → ℕ → ℤ
 at zs i = getD zs i (pos 0)

@@ -8,15 +8,26 @@ pub struct CreateArgs {
     pub columns: i32,
 }
 
-pub enum Command {
-    Bad,
-    Create(CreateArgs),
-    // Width and height.
-    Ask(i32, i32),
-    // Row and generation, as in the next.
-    Release(i32, i32),
+// What asks only to be told something.
+pub enum Tell {
+    // Row and generation.
     Look(i32, i32),
     Space,
     List,
+}
+
+// What may change the tables.
+pub enum Change {
+    Create(CreateArgs),
+    // Width and height.
+    Ask(i32, i32),
+    // Row and generation.
+    Release(i32, i32),
     Clear,
+}
+
+pub enum Command {
+    Bad,
+    Tell(Tell),
+    Change(Change),
 }

@@ -3,8 +3,10 @@ ghost use mathlib.Core.Path.{_≡_};
 ghost use Prim.Native.Nat.{_+_, _≤_};
 ghost use lib.ListN.{length, drop, take};
 ghost use Rattle.lines.specs.Line.{firstWord, ofSix, ofTwo, ofNone, ofLetter, saidBy, commandOf};
+use crate::command::Change;
 use crate::command::Command;
 use crate::command::CreateArgs;
+use crate::command::Tell;
 use numerals::Number;
 use numerals::read_number;
 
@@ -14,13 +16,13 @@ fn of_none(letter: u8) -> Command
     ensures { λ r. ⌜ r ≡ ofNone letter ⌝ }
 {
     if letter == b's' {
-        return Command::Space;
+        return Command::Tell(Tell::Space);
     }
     if letter == b'l' {
-        return Command::List;
+        return Command::Tell(Tell::List);
     }
     if letter == b'c' {
-        return Command::Clear;
+        return Command::Change(Change::Clear);
     }
     Command::Bad
 }
@@ -29,13 +31,13 @@ fn of_two(letter: u8, x: i32, y: i32) -> Command
     ensures { λ r. ⌜ r ≡ ofTwo letter x y ⌝ }
 {
     if letter == b'a' {
-        return Command::Ask(x, y);
+        return Command::Change(Change::Ask(x, y));
     }
     if letter == b'r' {
-        return Command::Release(x, y);
+        return Command::Change(Change::Release(x, y));
     }
     if letter == b'g' {
-        return Command::Look(x, y);
+        return Command::Tell(Tell::Look(x, y));
     }
     Command::Bad
 }
@@ -44,7 +46,7 @@ fn of_six(letter: u8, args: CreateArgs) -> Command
     ensures { λ r. ⌜ r ≡ ofSix letter args ⌝ }
 {
     if letter == b'n' {
-        return Command::Create(args);
+        return Command::Change(Change::Create(args));
     }
     Command::Bad
 }

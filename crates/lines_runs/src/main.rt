@@ -2,8 +2,10 @@
 // Then it writes a table of answers, each kind with small numbers and with the largest.
 use libc::STDIN_FILENO;
 use libc::STDOUT_FILENO;
+use lines::command::Change;
 use lines::command::Command;
 use lines::command::CreateArgs;
+use lines::command::Tell;
 use lines::read::read_line;
 use numbers::sides::natural_of;
 use rows::live::Live;
@@ -82,16 +84,28 @@ fn put_create(out: &mut [u8], args: CreateArgs) -> usize {
     )
 }
 
+fn put_tell(out: &mut [u8], tell: Tell) -> usize {
+    match tell {
+        Tell::Look(x, y) => put_pair(out, b'g', x, y),
+        Tell::Space => put_letter(out, b's'),
+        Tell::List => put_letter(out, b'l'),
+    }
+}
+
+fn put_change(out: &mut [u8], change: Change) -> usize {
+    match change {
+        Change::Create(args) => put_create(out, args),
+        Change::Ask(x, y) => put_pair(out, b'a', x, y),
+        Change::Release(x, y) => put_pair(out, b'r', x, y),
+        Change::Clear => put_letter(out, b'c'),
+    }
+}
+
 fn put_command(out: &mut [u8], command: Command) -> usize {
     match command {
         Command::Bad => put_text(out, 0, b"bad\n"),
-        Command::Create(args) => put_create(out, args),
-        Command::Ask(x, y) => put_pair(out, b'a', x, y),
-        Command::Release(x, y) => put_pair(out, b'r', x, y),
-        Command::Look(x, y) => put_pair(out, b'g', x, y),
-        Command::Space => put_letter(out, b's'),
-        Command::List => put_letter(out, b'l'),
-        Command::Clear => put_letter(out, b'c'),
+        Command::Tell(tell) => put_tell(out, tell),
+        Command::Change(change) => put_change(out, change),
     }
 }
 

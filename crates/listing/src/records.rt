@@ -1,6 +1,7 @@
 // A lent list of live records, six numbers each.
 ghost use mathlib.Core.Path.{_≡_};
 ghost use lib.ListN.{length};
+ghost use Prim.Native.Nat.{_<_};
 ghost use Rattle.rows.specs.Prelude.{rows, put};
 ghost use Rattle.rules.specs.Prelude.{liveNumbers};
 ghost use Rattle.promises.specs.Prelude.{records};
@@ -30,17 +31,12 @@ fn write_record(r: &mut [u16], v: Live)
     r[5] = v.y1;
 }
 
-// The record goes to its place; nothing changes where the list has no such place.
-pub fn put_record(out: &mut [u16], at: u16, v: Live)
+// The record goes to a place that the list has: its length is not tested.
+pub fn put_record(out: &mut [u16], at: usize, v: Live)
+    requires { ⌜ at < rows records (now out) ⌝ }
     ensures { λ _. ⌜ now (out .exit) ≡ put records (now (out .entry)) at v ⌝ }
 {
-    if at == 65535 {
-        return;
-    }
-    let b = at as usize * 6;
+    let b = at * 6;
     let e = b + 6;
-    if out.len() < e {
-        return;
-    }
     write_record(&mut out[b..e], v);
 }

@@ -9,7 +9,7 @@ use Rattle.wrap.specs.Wrap.{minus32}
 use Rattle.shelf_edits.specs.State.{State}
 use Rattle.shelf_edits.specs.ShelfEdits.{withFree, mergeShelves}
 use Rattle.search.specs.Search.{shelfIsEmpty}
-use Rattle.live.specs.Live.{areaAt}
+use Rattle.live_rows.specs.Live.{areaAt}
 use Rattle.merge_items.specs.MergeItems.{Loose, loosen, oneFree}
 
 -- ---- shelves

@@ -1,1 +1,2 @@
+pub mod LooseIn
 pub mod MergeItems

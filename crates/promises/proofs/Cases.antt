@@ -21,6 +21,10 @@ unfolding Promise
 said-so call h S I h′ S′ I′ so (fails n had) = fails n (record { says = so _ (had .says); leaves = had .leaves })
 said-so call h S I h′ S′ I′ so (passes p had) = passes p (record { says = so _ (had .says); leaves = had .leaves })
 
+-- what a caller owes, as a test that found it so: for the calls that make no audit
+pub owed : {A : Type 0} → A → Decides true A
+owed a = record { sound = λ e. a; complete = λ p. refl }
+
 module _ (call : Call) (Says : Outcome Value → Type 0) (h : Header) (S I : List ℕ) where
   -- no create changes the header where it is refused
   refused-leaves : isCreate call ≡ false → (n : ℕ) → Leaves call h S I h S I (refused n)

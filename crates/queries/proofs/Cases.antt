@@ -5,7 +5,7 @@ use Rattle.rows.specs.declared.{header.Header.Header, live.Live.Live}
 use Rattle.rules.specs.Prelude.{refused, gives, mapped, roomIn, atlasIn, Passes, Call, LookUp, Occupied, FreeSpace, Size, IsEmpty, Value, area, sides, vacant}
 use Rattle.rules.specs.Prelude.{isCreate, tells, stepIn, stepWithout, Answering, Asks}
 use Rattle.rules.specs.Step.{item}
-use Rattle.live.specs.Live.{isLive, liveAt, isVacant}
+use Rattle.live_rows.specs.Live.{isLive, liveAt, isVacant}
 use Rattle.bridge.proofs.Calls.{look-none, look-some, occupied-is, free-is, empty-is, size-x-is, size-y-is}
 use Rattle.promises.specs.Prelude.{grants, areas, extents, vacancies, Tells, LooksUp, TellsOccupied, TellsFreeSpace, TellsSize, TellsEmpty}
 use Rattle.promises.specs.declared.answers.Grant.the-variants as grant
@@ -13,7 +13,7 @@ use Rattle.promises.specs.declared.answers.Area.the-variants as area-answer
 use Rattle.promises.specs.declared.answers.Extent.the-variants as extent
 use Rattle.promises.specs.declared.answers.Vacancy.the-variants as vacancy
 use Rattle.promises.proofs.Numbered.{Numbered, answered, look-up-numbered, occupied-numbered, free-space-numbered, size-numbered, is-empty-numbered}
-use Rattle.promises.proofs.Cases.{stays, fails-first, refuses, does}
+use Rattle.promises.proofs.Cases.{stays, owed, fails-first, refuses, does}
 
 module _ (h : Header) (S I : List ℕ) {test : Bool} (d : Decides test (Passes h S I)) where
   -- ---- a call that asks for the audit and tells something of the atlas
@@ -31,22 +31,9 @@ module _ (h : Header) (S I : List ℕ) {test : Bool} (d : Decides test (Passes h
     told e r v is says =
         does call _ h S I asked h S I e (λ a. let p : Passes h S I = rw asks at a in (tells (atlasIn h S I) v, is p, answered numbered r (says p), stays h S I p))
 
-  -- ---- an id
-
-  module _ (row generation : ℕ) where
-    pub looks-3 : not test ≡ true → LooksUp h S I row generation (grant.Refused 3)
-    unfolding LooksUp Asks stepWithout isCreate grants
-    looks-3 e = told-3 grants (LookUp row generation) (look-up-numbered row generation) refl e refl refl (grant.Refused 3) refl
-
-    pub looks-none : not test ≡ false → isLive h I row generation ≡ false → LooksUp h S I row generation (grant.Refused 8)
-    unfolding LooksUp Asks stepIn mapped isCreate grants
-    looks-none e none =
-        refuses (LookUp row generation) _ h S I d e 8 (λ p. rw (look-none h S I p row generation none)) refl (answered (look-up-numbered row generation) (grant.Refused 8) refl)
-
-    pub looks-some : not test ≡ false → isLive h I row generation ≡ true → (v : Live) → v ≡ liveAt h S I row → LooksUp h S I row generation (grant.Granted v)
-    unfolding LooksUp Asks stepIn mapped grants
-    looks-some e some v is =
-        told grants (LookUp row generation) (look-up-numbered row generation) refl e (grant.Granted v) (item v) (λ p. rw (look-some h S I p row generation some, is)) (λ p. refl)
+  pub looks-3 : (row generation : ℕ) → not test ≡ true → LooksUp h S I row generation (grant.Refused 3)
+  unfolding LooksUp Asks stepWithout isCreate grants
+  looks-3 row generation e = told-3 grants (LookUp row generation) (look-up-numbered row generation) refl e refl refl (grant.Refused 3) refl
 
   -- ---- totals, size and is_empty
 
@@ -87,3 +74,16 @@ module _ (h : Header) (S I : List ℕ) {test : Bool} (d : Decides test (Passes h
   unfolding TellsSize Asks stepIn extents
   size-turned e v =
       told extents Size size-numbered refl e (extent.Sides (h .limits .height) (h .limits .width)) (sides (h .limits .height) (h .limits .width)) (λ p. rw (size-x-is h S I p, size-y-is h S I p, eq-eqb (h .limits .vertical) 1 v)) (λ p. refl)
+
+-- ---- an id, in tables that pass
+
+module _ (h : Header) (S I : List ℕ) (p : Passes h S I) (row generation : ℕ) where
+  pub looks-none : isLive h I row generation ≡ false → LooksUp h S I row generation (grant.Refused 8)
+  unfolding LooksUp Asks stepIn mapped isCreate grants
+  looks-none none =
+      refuses (LookUp row generation) _ h S I (owed p) refl 8 (λ _. rw (look-none h S I p row generation none)) refl (answered (look-up-numbered row generation) (grant.Refused 8) refl)
+
+  pub looks-some : isLive h I row generation ≡ true → (v : Live) → v ≡ liveAt h S I row → LooksUp h S I row generation (grant.Granted v)
+  unfolding LooksUp Asks stepIn mapped grants
+  looks-some some v is =
+      told h S I (owed p) grants (LookUp row generation) (look-up-numbered row generation) refl refl (grant.Granted v) (item v) (λ _. rw (look-some h S I p row generation some, is)) (λ _. refl)

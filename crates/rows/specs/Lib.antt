@@ -6,4 +6,5 @@ pub mod Header
 pub mod Shelf
 pub mod Item
 pub mod Views
+pub mod Links
 pub mod Prelude

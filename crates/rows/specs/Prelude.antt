@@ -1,7 +1,7 @@
 -- What other files bring from the specs of `rows`, in one place. It states nothing of its own. Assumes nothing.
 pub use Rattle.rows.specs.Part.{each-all, sets-all}
 pub use Rattle.rows.specs.Row.{Shape, rows, rest, get, put, rows-are, rows-long, rows-few, rows-fit, fit-rows, length-put, rows-put, get-out, get-none}
-pub use Rattle.rows.specs.Row.{get-short, get-there, get-part, put-none, put-short, put-part, get-put-same, get-put-other, rest-put, same-rows, put-put}
+pub use Rattle.rows.specs.Row.{get-short, get-there, get-part, put-none, put-short, put-part, put-there, get-put-same, get-put-other, rest-put, same-rows, put-put}
 pub use Rattle.rows.specs.Change.{change, change-is, length-change, rows-change, get-change-other, get-put-there, get-change-there, unseen}
 pub use Rattle.rows.specs.Past.{Past, past-same, past-put, past-change, past-more, past-then}
 pub use Rattle.rows.specs.Header.{zeroHeader}
@@ -13,3 +13,5 @@ unfoldable pub use Rattle.rows.specs.Item.{items, withItemX, withWidth, 
 unfoldable pub use Rattle.rows.specs.Item.{withGeneration}
 pub use Rattle.rows.specs.Views.{Body, Links, same-row}
 unfoldable pub use Rattle.rows.specs.Views.{bodyOf, linksOf, inBody}
+pub use Rattle.rows.specs.Links.{Below, below-more, below-some, Linked, LinksWithin, linked-at, within-put, within-change, linked-more, within-new, within-again, below-there}
+pub use Rattle.rows.specs.Links.{linked-there}

@@ -121,6 +121,10 @@ module _ {A : Type 0} (s : Shape A) where
       → take (i * s .width) l ++ (s .numbers v ++ drop (i * s .width + s .width - i * s .width) (drop (i * s .width) l)) ≡ put l i v
   put-part l i v f h = rw (add-sub-cancel-left, drop-drop, ← append-assoc) (sym (put-in l i v (fit-rows l i f h)))
 
+  pub put-there : (l : List ℕ) (i : ℕ) (v : A) → i < rows l
+      → take (i * s .width) l ++ (s .numbers v ++ drop (i * s .width + s .width - i * s .width) (drop (i * s .width) l)) ≡ put l i v
+  put-there l i v h = put-part l i v (omega (arith, rows-few l)) (rows-fit l i h)
+
   pub get-put-same : (l : List ℕ) (i : ℕ) (v : A) → i < rows l → get (put l i v) i ≡ v
   unfolding cut
   get-put-same l i v h =

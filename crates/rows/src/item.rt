@@ -3,6 +3,7 @@ ghost use mathlib.Core.Path.{_≡_};
 ghost use lib.ListN.{length};
 ghost use Prim.Native.Nat.{_<_};
 ghost use Rattle.rows.specs.Item.{zeroItem, numbersOf, itemOf, itemCapacity, itemAt, putItem};
+ghost use Rattle.rows.specs.Links.{Below};
 use numbers::index::ItemIndex;
 use numbers::index::MOST_ROWS;
 use numbers::index::ShelfIndex;
@@ -106,6 +107,30 @@ pub fn get_item(items: &[u16], at: ItemIndex) -> ItemRow
         return no_item();
     }
     item_there(items, at)
+}
+
+// The row that a link names; zeros where it names none. It names a row that the table has, so that the length is not tested.
+pub fn linked_item(items: &[u16], at: ItemIndex) -> ItemRow
+    requires { ⌜ Below (itemCapacity (now items)) (at .0) ⌝ }
+    ensures { λ r. ⌜ r ≡ itemAt (now (items .entry)) at ⌝ }
+{
+    if at.0 == ItemIndex::NONE.0 {
+        return no_item();
+    }
+    item_there(items, at)
+}
+
+// The row goes to where a link leads; nothing changes where it names none.
+pub fn put_linked_item(items: &mut [u16], at: ItemIndex, v: ItemRow)
+    requires { ⌜ Below (itemCapacity (now items)) (at .0) ⌝ }
+    ensures { λ _. ⌜ now (items .exit) ≡ putItem (now (items .entry)) at v ⌝ }
+{
+    if at.0 == ItemIndex::NONE.0 {
+        return;
+    }
+    let b = at.0 as usize * NUMBERS;
+    let e = b + NUMBERS;
+    write_item(&mut items[b..e], v);
 }
 
 // The row goes to its index; nothing changes where the table has no such row.

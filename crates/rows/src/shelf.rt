@@ -1,6 +1,7 @@
 // The rows of the shelf table, as values.
 ghost use mathlib.Core.Path.{_≡_};
 ghost use lib.ListN.{length};
+ghost use Prim.Native.Nat.{_<_};
 ghost use Rattle.rows.specs.Shelf.{zeroShelf, numbersOf, shelfOf, shelfCapacity, shelfAt, putShelf};
 use numbers::index::ItemIndex;
 use numbers::index::MOST_ROWS;
@@ -80,6 +81,16 @@ pub fn shelf_capacity(shelves: &[u16]) -> u16
     n as u16
 }
 
+// The row at an index that the table has: its length is not tested.
+pub fn shelf_there(shelves: &[u16], at: ShelfIndex) -> ShelfRow
+    requires { ⌜ at .0 < shelfCapacity (now shelves) ⌝ }
+    ensures { λ r. ⌜ r ≡ shelfAt (now (shelves .entry)) at ⌝ }
+{
+    let b = at.0 as usize * NUMBERS;
+    let e = b + NUMBERS;
+    read_shelf(&shelves[b..e])
+}
+
 // The row at an index; zeros where the table has no such row.
 pub fn get_shelf(shelves: &[u16], at: ShelfIndex) -> ShelfRow
     ensures { λ r. ⌜ r ≡ shelfAt (now (shelves .entry)) at ⌝ }
@@ -93,6 +104,16 @@ pub fn get_shelf(shelves: &[u16], at: ShelfIndex) -> ShelfRow
         return no_shelf();
     }
     read_shelf(&shelves[b..e])
+}
+
+// The row goes to an index that the table has: its length is not tested.
+pub fn put_shelf_there(shelves: &mut [u16], at: ShelfIndex, v: ShelfRow)
+    requires { ⌜ at .0 < shelfCapacity (now shelves) ⌝ }
+    ensures { λ _. ⌜ now (shelves .exit) ≡ putShelf (now (shelves .entry)) at v ⌝ }
+{
+    let b = at.0 as usize * NUMBERS;
+    let e = b + NUMBERS;
+    write_shelf(&mut shelves[b..e], v);
 }
 
 // The row goes to its index; nothing changes where the table has no such row.

@@ -3,16 +3,13 @@ ghost use Rattle.lines.specs.Line.{commandOf};
 ghost use Rattle.script_rules.specs.Step.{Steps, Doing};
 use lines::command::Command;
 use lines::read::read_line;
+use numbers::refusal;
 use rows::header::Header;
-use script_calls::on_ask;
-use script_calls::on_clear;
-use script_calls::on_create;
-use script_calls::on_release;
+use script_calls::change;
 use script_rules::Stepped;
-use script_tells::list::on_list;
-use script_tells::tell::on_bad;
-use script_tells::tell::on_look;
-use script_tells::tell::on_space;
+use script_rules::answers::say;
+use script_tells::tell::tell;
+use texts::answer::Answer;
 
 // Answers one line, without its newline. The text goes into `out` from `at` on; of an answer that has no room there, the end is missing.
 pub fn step(
@@ -28,28 +25,16 @@ pub fn step(
     let command = read_line(line);
     match command {
         Command::Bad => {
-            return on_bad(h, shelves, items, out, at);
+            return say(h, out, at, Answer::No(refusal::NOT_READABLE));
         }
-        Command::Create(args) => {
-            return on_create(h, shelves, items, args, out, at);
+        Command::Tell(asked) => {
+            return tell(h, shelves, items, asked, out, at);
         }
-        Command::Ask(w, height) => {
-            return on_ask(h, shelves, items, w, height, out, at);
-        }
-        Command::Release(row, generation) => {
-            return on_release(h, shelves, items, row, generation, out, at);
-        }
-        Command::Look(row, generation) => {
-            return on_look(h, shelves, items, row, generation, out, at);
-        }
-        Command::Space => {
-            return on_space(h, shelves, items, out, at);
-        }
-        Command::List => {
-            return on_list(h, shelves, items, out, at);
-        }
-        Command::Clear => {
-            return on_clear(h, shelves, items, out, at);
+        Command::Change(asked) => {
+            let answered = change(h, shelves, items, asked);
+            let header = answered.header;
+            let answer = answered.answer;
+            return say(header, out, at, answer);
         }
     }
 }

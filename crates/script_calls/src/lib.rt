@@ -1,27 +1,22 @@
 // The commands that may change the tables: n, a, r and c.
-ghost use Rattle.lines.specs.declared.command.Command.the-variants as command;
+ghost use Rattle.lines.specs.declared.command.Change.the-variants as change;
 ghost use Rattle.rules.specs.Step as call;
-ghost use Rattle.script_rules.specs.Step.{Steps, Calling, Doing};
+ghost use Rattle.texts.specs.Answer.{textOf};
+ghost use Rattle.script_rules.specs.Answers.{changeOf};
+ghost use Rattle.script_rules.specs.Step.{Calling};
+use lines::command::Change;
 use lines::command::CreateArgs;
 use rows::header::Header;
-use script_rules::Stepped;
+use script_rules::Answered;
 use script_rules::answers::of_creation;
 use script_rules::answers::of_grant;
 use script_rules::answers::of_reply;
-use script_rules::answers::say;
 use script_rules::ids::Id;
 use script_rules::ids::id_of;
 use script_rules::outside::outside;
 
-pub fn on_create(
-    h: Header,
-    shelves: &mut [u16],
-    items: &mut [u16],
-    args: CreateArgs,
-    out: &mut [u8],
-    at: usize,
-) -> Stepped
-    ensures { λ r. ⌜ Steps (Doing h (now (shelves .entry)) (now (items .entry)) (command.Create args)) (now (out .entry)) at r (now (shelves .exit)) (now (items .exit)) (now (out .exit)) ⌝ }
+fn on_create(h: Header, shelves: &mut [u16], items: &mut [u16], args: CreateArgs) -> Answered
+    ensures { λ r. ⌜ Calling h (now (shelves .entry)) (now (items .entry)) (changeOf (change.Create args)) (r .header) (now (shelves .exit)) (now (items .exit)) (textOf (r .answer)) ⌝ }
 {
     let made = create::create(
         shelves,
@@ -33,26 +28,24 @@ pub fn on_create(
         args.vertical,
         args.columns,
     );
+    let after = made.header;
     let answer = made.answer;
-    let header = made.header;
-    say(header, out, at, of_creation(answer))
+    Answered {
+        header: after,
+        answer: of_creation(answer),
+    }
 }
 
-pub fn on_ask(
-    h: Header,
-    shelves: &mut [u16],
-    items: &mut [u16],
-    w: i32,
-    height: i32,
-    out: &mut [u8],
-    at: usize,
-) -> Stepped
-    ensures { λ r. ⌜ Steps (Doing h (now (shelves .entry)) (now (items .entry)) (command.Ask w height)) (now (out .entry)) at r (now (shelves .exit)) (now (items .exit)) (now (out .exit)) ⌝ }
+fn on_ask(h: Header, shelves: &mut [u16], items: &mut [u16], w: i32, height: i32) -> Answered
+    ensures { λ r. ⌜ Calling h (now (shelves .entry)) (now (items .entry)) (changeOf (change.Ask w height)) (r .header) (now (shelves .exit)) (now (items .exit)) (textOf (r .answer)) ⌝ }
 {
     let allocated = allocate::allocate(h, shelves, items, w, height);
-    let answer = allocated.answer;
     let header = allocated.header;
-    say(header, out, at, of_grant(answer))
+    let answer = allocated.answer;
+    Answered {
+        header,
+        answer: of_grant(answer),
+    }
 }
 
 fn release_id(
@@ -61,50 +54,68 @@ fn release_id(
     items: &mut [u16],
     row: u16,
     generation: u16,
-    out: &mut [u8],
-    at: usize,
-) -> Stepped
-    ensures { λ r. ⌜ Steps (Calling h (now (shelves .entry)) (now (items .entry)) (call.Release row generation)) (now (out .entry)) at r (now (shelves .exit)) (now (items .exit)) (now (out .exit)) ⌝ }
+) -> Answered
+    ensures { λ r. ⌜ Calling h (now (shelves .entry)) (now (items .entry)) (call.Release row generation) (r .header) (now (shelves .exit)) (now (items .exit)) (textOf (r .answer)) ⌝ }
 {
     let released = release::release(h, shelves, items, row, generation);
-    let answer = released.answer;
     let header = released.header;
-    say(header, out, at, of_reply(answer))
+    let answer = released.answer;
+    Answered {
+        header,
+        answer: of_reply(answer),
+    }
 }
 
-pub fn on_release(
+fn on_release(
     h: Header,
     shelves: &mut [u16],
     items: &mut [u16],
     row: i32,
     generation: i32,
-    out: &mut [u8],
-    at: usize,
-) -> Stepped
-    ensures { λ r. ⌜ Steps (Doing h (now (shelves .entry)) (now (items .entry)) (command.Release row generation)) (now (out .entry)) at r (now (shelves .exit)) (now (items .exit)) (now (out .exit)) ⌝ }
+) -> Answered
+    ensures { λ r. ⌜ Calling h (now (shelves .entry)) (now (items .entry)) (changeOf (change.Release row generation)) (r .header) (now (shelves .exit)) (now (items .exit)) (textOf (r .answer)) ⌝ }
 {
     let id = id_of(row, generation);
     match id {
         Id::Of(of_row, of_generation) => {
-            return release_id(h, shelves, items, of_row, of_generation, out, at);
+            return release_id(h, shelves, items, of_row, of_generation);
         }
         Id::Outside => {
-            return outside(h, shelves, items, out, at);
+            return Answered {
+                header: h,
+                answer: outside(h, shelves, items),
+            };
         }
     }
 }
 
-pub fn on_clear(
-    h: Header,
-    shelves: &mut [u16],
-    items: &mut [u16],
-    out: &mut [u8],
-    at: usize,
-) -> Stepped
-    ensures { λ r. ⌜ Steps (Doing h (now (shelves .entry)) (now (items .entry)) command.Clear) (now (out .entry)) at r (now (shelves .exit)) (now (items .exit)) (now (out .exit)) ⌝ }
+fn on_clear(h: Header, shelves: &mut [u16], items: &mut [u16]) -> Answered
+    ensures { λ r. ⌜ Calling h (now (shelves .entry)) (now (items .entry)) (changeOf change.Clear) (r .header) (now (shelves .exit)) (now (items .exit)) (textOf (r .answer)) ⌝ }
 {
     let cleared = create::clear(h, shelves, items);
-    let answer = cleared.answer;
     let header = cleared.header;
-    say(header, out, at, of_reply(answer))
+    let answer = cleared.answer;
+    Answered {
+        header,
+        answer: of_reply(answer),
+    }
+}
+
+pub fn change(h: Header, shelves: &mut [u16], items: &mut [u16], asked: Change) -> Answered
+    ensures { λ r. ⌜ Calling h (now (shelves .entry)) (now (items .entry)) (changeOf asked) (r .header) (now (shelves .exit)) (now (items .exit)) (textOf (r .answer)) ⌝ }
+{
+    match asked {
+        Change::Create(args) => {
+            return on_create(h, shelves, items, args);
+        }
+        Change::Ask(w, height) => {
+            return on_ask(h, shelves, items, w, height);
+        }
+        Change::Release(row, generation) => {
+            return on_release(h, shelves, items, row, generation);
+        }
+        Change::Clear => {
+            return on_clear(h, shelves, items);
+        }
+    }
 }

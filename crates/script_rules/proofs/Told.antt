@@ -3,14 +3,16 @@
 use Rattle.numbers.specs.Library.{ℕ, _≡_, refl, ap, _∙_, Bool, true, false, not, List}
 use Rattle.numbers.specs.Prelude.{Decides}
 use Rattle.rows.specs.declared.header.Header.{Header}
-use Rattle.rules.specs.Prelude.{Outcome, Passes, Call, Value, NoSuchId, isCreate, stepIn, stepWithout, Answering, Answers, Asks}
+use Rattle.rules.specs.Prelude.{mapped, Outcome, Passes, Call, Value, NoSuchId, isCreate, stepIn, stepWithout, step, Leaves, headerKept, Answering, Answers, Asks, passes}
+use Rattle.rules.specs.Prelude.{Promise}
 use Rattle.promises.specs.Prelude.{creations, grants, replies, Promises}
 use Rattle.promises.specs.declared.{answers.Grant.Grant, answers.Creation.Creation, answers.Reply.Reply}
 use Rattle.promises.specs.declared.answers.Grant.the-variants as grant
 use Rattle.promises.specs.declared.answers.Creation.the-variants as creation
 use Rattle.promises.specs.declared.answers.Reply.the-variants as reply
-use Rattle.promises.proofs.Cases.{said-so, fails-first, refuses}
+use Rattle.promises.proofs.Cases.{said-so, unchanged, fails-first, refuses}
 use Rattle.lines.specs.declared.command.Command.{Command}
+use Rattle.lines.specs.declared.command.Command.the-variants as command
 use Rattle.texts.specs.Answer.{textOf}
 use Rattle.texts.specs.declared.answer.Answer.{Answer}
 use Rattle.texts.specs.declared.answer.Answer.the-variants as answer
@@ -36,23 +38,23 @@ unfolding replied outcomeText replies
 replied-text reply.Done = refl
 replied-text (reply.Refused n) = refl
 
--- a public call was made: its answer's text is put beside the header that it returned
+-- a public call was made: its answer's text is right beside the header that it returned
 module _ {A : Type 0} (t : Answering A) (answer : A → Answer) (same : (r : A) → textOf (answer r) ≡ outcomeText (t .says r)) where
   pub told-by : (call : Call) (h : Header) (S I : List ℕ) (r : A) (left : Header) (S′ I′ : List ℕ) → Promises t call h S I r left S′ I′
-      → (told : Answer) → told ≡ answer r → {out : List ℕ} {at : ℕ} {stepped : Stepped} {out′ : List ℕ} → Said left out at (textOf told) stepped out′
-      → Steps (Calling h S I call) out at stepped S′ I′ out′
+      → (told : Answer) → told ≡ answer r → Calling h S I call left S′ I′ (textOf told)
   unfolding Calling
-  told-by call h S I r left S′ I′ promise told is said = record {
-    text = textOf told;
-    puts = said .puts;
-    right = rw (said .header) (said-so call h S I left S′ I′ (λ (o : Outcome Value) (a : Answers t call r o). ap textOf is ∙ same r ∙ ap outcomeText (a .says)) promise);
-  }
+  told-by call h S I r left S′ I′ promise told is =
+      said-so call h S I left S′ I′ (λ (o : Outcome Value) (a : Answers t call r o). ap textOf is ∙ same r ∙ ap outcomeText (a .says)) promise
+
+-- an answer whose text is right is put
+pub said : {Right : Header → List ℕ → List ℕ → List ℕ → Type 0} {left : Header} {S′ I′ text out : List ℕ} {at : ℕ} {r : Stepped} {out′ : List ℕ}
+    → Right left S′ I′ text → Said left out at text r out′ → Steps Right out at r S′ I′ out′
+said {text = text} right s = record { text = text; puts = s .puts; right = rw (s .header) right }
 
 -- ---- a call and a command, by what it is read to be
 
-pub as-called : (h : Header) (S I : List ℕ) {a b : Call} → a ≡ b → {out : List ℕ} {at : ℕ} {r : Stepped} {S′ I′ out′ : List ℕ}
-    → Steps (Calling h S I b) out at r S′ I′ out′ → Steps (Calling h S I a) out at r S′ I′ out′
-as-called h S I e s = record { text = s .text; puts = s .puts; right = rw e (s .right) }
+pub as-called : (h : Header) (S I : List ℕ) (h′ : Header) (S′ I′ text : List ℕ) {a b : Call} → a ≡ b → Calling h S I b h′ S′ I′ text → Calling h S I a h′ S′ I′ text
+as-called h S I h′ S′ I′ text e c = rw e c
 
 pub as-read : (h : Header) (S I : List ℕ) {a b : Command} → a ≡ b → {out : List ℕ} {at : ℕ} {r : Stepped} {S′ I′ out′ : List ℕ}
     → Steps (Doing h S I b) out at r S′ I′ out′ → Steps (Doing h S I a) out at r S′ I′ out′
@@ -67,13 +69,19 @@ module _ (asked : ℕ → ℕ → Call) where
   unfolding onId
   on-none e = ap (onId asked) e
 
+-- ---- a line that is no command
+
+pub unreadable : (h : Header) (S I : List ℕ) → Doing h S I command.Bad h S I (textOf (answer.No 11))
+unfolding Doing Promise Asks step stepIn mapped Leaves headerKept isCreate outcomeText
+unreadable h S I = passes tt (record { says = refl; leaves = unchanged })
+
 -- ---- an id that no item can have: the audit decides
 
-module _ (h : Header) (S I : List ℕ) {out : List ℕ} {at : ℕ} {r : Stepped} {out′ : List ℕ} {test : Bool} (d : Decides test (Passes h S I)) where
-  pub outside-3 : not test ≡ true → Said h out at (textOf (answer.No 3)) r out′ → Steps (Calling h S I NoSuchId) out at r S I out′
+module _ (h : Header) (S I : List ℕ) {test : Bool} (d : Decides test (Passes h S I)) where
+  pub outside-3 : not test ≡ true → Calling h S I NoSuchId h S I (textOf (answer.No 3))
   unfolding Calling Asks stepWithout isCreate outcomeText
-  outside-3 e s = record { text = textOf (answer.No 3); puts = s .puts; right = rw (s .header) (fails-first NoSuchId (Texts (textOf (answer.No 3))) h S I d e refl refl refl) }
+  outside-3 e = fails-first NoSuchId (Texts (textOf (answer.No 3))) h S I d e refl refl refl
 
-  pub outside-8 : not test ≡ false → Said h out at (textOf (answer.No 8)) r out′ → Steps (Calling h S I NoSuchId) out at r S I out′
+  pub outside-8 : not test ≡ false → Calling h S I NoSuchId h S I (textOf (answer.No 8))
   unfolding Calling Asks stepIn isCreate outcomeText
-  outside-8 e s = record { text = textOf (answer.No 8); puts = s .puts; right = rw (s .header) (refuses NoSuchId (Texts (textOf (answer.No 8))) h S I d e 8 (λ p. refl) refl refl) }
+  outside-8 e = refuses NoSuchId (Texts (textOf (answer.No 8))) h S I d e 8 (λ p. refl) refl refl

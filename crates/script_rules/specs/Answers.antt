@@ -7,8 +7,10 @@ use Rattle.promises.specs.declared.{answers.Grant.Grant, answers.Creation.Creat
 use Rattle.promises.specs.declared.answers.Grant.the-variants as grant
 use Rattle.promises.specs.declared.answers.Creation.the-variants as creation
 use Rattle.promises.specs.declared.answers.Reply.the-variants as reply
-use Rattle.lines.specs.declared.command.Command.{Command}
+use Rattle.lines.specs.declared.{command.Command.Command, command.Tell.Tell, command.Change.Change}
 use Rattle.lines.specs.declared.command.Command.the-variants as command
+use Rattle.lines.specs.declared.command.Tell.the-variants as tell
+use Rattle.lines.specs.declared.command.Change.the-variants as change
 use Rattle.texts.specs.Answer.{textOf}
 use Rattle.texts.specs.declared.answer.Answer.{Answer}
 use Rattle.texts.specs.declared.answer.Answer.the-variants as answer
@@ -28,16 +30,24 @@ onId asked id.Outside = call.NoSuchId
 abbrev pub everyRow : ℕ
 everyRow = 65535
 
-unfoldable pub callOf : Command → Call
+unfoldable pub tellOf : Tell → Call
 unfolding onId
+tellOf (tell.Look row generation) = onId call.LookUp (idOf row generation)
+tellOf tell.Space = call.Totals
+tellOf tell.List = call.ListIn everyRow
+
+unfoldable pub changeOf : Change → Call
+unfolding onId
+changeOf (change.Create args) = call.Create (args .w) (args .h) (args .«align_w») (args .«align_h») (args .vertical) (args .columns)
+changeOf (change.Ask w h) = call.Allocate w h
+changeOf (change.Release row generation) = onId call.Release (idOf row generation)
+changeOf change.Clear = call.Clear
+
+unfoldable pub callOf : Command → Call
+unfolding tellOf changeOf
 callOf command.Bad = call.Unreadable
-callOf (command.Create args) = call.Create (args .w) (args .h) (args .«align_w») (args .«align_h») (args .vertical) (args .columns)
-callOf (command.Ask w h) = call.Allocate w h
-callOf (command.Release row generation) = onId call.Release (idOf row generation)
-callOf (command.Look row generation) = onId call.LookUp (idOf row generation)
-callOf command.Space = call.Totals
-callOf command.List = call.ListIn everyRow
-callOf command.Clear = call.Clear
+callOf (command.Tell asked) = tellOf asked
+callOf (command.Change asked) = changeOf asked
 
 -- ---- the text of an outcome: "ok" and what is told, or "no N"
 

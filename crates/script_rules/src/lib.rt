@@ -4,6 +4,13 @@ pub mod ids;
 pub mod outside;
 
 use rows::header::Header;
+use texts::answer::Answer;
+
+// The header after a command, and what is answered.
+pub struct Answered {
+    pub header: Header,
+    pub answer: Answer,
+}
 
 // The header after a line, and the place after the text of its answer.
 pub struct Stepped {

@@ -1,8 +1,10 @@
 // The command l: a line for each live item by rising row, and the count.
-ghost use Rattle.lines.specs.declared.command.Command.the-variants as command;
-ghost use Rattle.live.specs.Live.{rowListed, rowsListed};
+ghost use Prim.Native.Nat.{_<_};
+ghost use Rattle.lines.specs.declared.command.Tell.the-variants as tell;
+ghost use Rattle.live_rows.specs.Live.{LiveRowsThere, rowListed, rowsListed};
 ghost use Rattle.script_tells.specs.Listing.{Listed};
-ghost use Rattle.script_rules.specs.Step.{Steps, Doing};
+ghost use Rattle.script_rules.specs.Answers.{tellOf};
+ghost use Rattle.script_rules.specs.Step.{Steps, Calling};
 use numbers::index::ItemIndex;
 use numbers::refusal;
 use rows::header::Header;
@@ -18,16 +20,17 @@ pub struct Lines {
     pub at: usize,
 }
 
-// The line of this row, if it holds a live item.
+// The line of this used row, if it holds a live item.
 fn put_row(h: Header, shelves: &[u16], items: &[u16], row: u16, out: &mut [u8], at: usize) -> Lines
+    requires { ⌜ LiveRowsThere h (now shelves) (now items) × (row < h .«used_items») ⌝ }
     ensures { λ r. ⌜ Listed (rowListed h (now (shelves .entry)) (now (items .entry)) row) (now (out .entry)) at r (now (out .exit)) ⌝ }
 {
     let index = ItemIndex(row);
-    let v = item::get_item(items, index);
-    if v.allocated != 1 {
+    let i = item::item_there(items, index);
+    if i.allocated != 1 {
         return Lines { count: 0, at };
     }
-    let found = live::live_at(h, shelves, items, row);
+    let found = live_rows::live_of_item(h, shelves, i, row);
     Lines {
         count: 1,
         at: put_answer(out, at, Answer::Listed(found)),
@@ -36,6 +39,7 @@ fn put_row(h: Header, shelves: &[u16], items: &[u16], row: u16, out: &mut [u8], 
 
 // The lines of all the used rows.
 fn put_rows(h: Header, shelves: &[u16], items: &[u16], out: &mut [u8], at: usize) -> Lines
+    requires { ⌜ LiveRowsThere h (now shelves) (now items) ⌝ }
     ensures { λ r. ⌜ Listed (rowsListed h (now (shelves .entry)) (now (items .entry)) (h .«used_items»)) (now (out .entry)) at r (now (out .exit)) ⌝ }
 {
     let mut count: u32 = 0;
@@ -51,7 +55,7 @@ fn put_rows(h: Header, shelves: &[u16], items: &[u16], out: &mut [u8], at: usize
 }
 
 pub fn on_list(h: Header, shelves: &[u16], items: &[u16], out: &mut [u8], at: usize) -> Stepped
-    ensures { λ r. ⌜ Steps (Doing h (now (shelves .entry)) (now (items .entry)) command.List) (now (out .entry)) at r (now (shelves .entry)) (now (items .entry)) (now (out .exit)) ⌝ }
+    ensures { λ r. ⌜ Steps (Calling h (now (shelves .entry)) (now (items .entry)) (tellOf tell.List)) (now (out .entry)) at r (now (shelves .entry)) (now (items .entry)) (now (out .exit)) ⌝ }
 {
     if !audit::passes(h, shelves, items) {
         return say(h, out, at, Answer::No(refusal::AUDIT));

@@ -1,20 +1,35 @@
--- Where a request goes, by reads along the chains: the walk of the shelf chain, at most as many steps as there are used rows. Assumes nothing.
-use Rattle.numbers.specs.Library.{ℕ, zero, suc, _-_, _<_, _≡_, refl, Bool, true, false, not, _&&_, _||_, List, arith, leb, ltb, eqb}
-use Rattle.numbers.specs.Prelude.{pick, goodFitTo, noRow, noItem}
-use Rattle.numbers.specs.declared.{index.ItemIndex.ItemIndex, index.ShelfIndex.ShelfIndex, request.Asked.Asked}
-use Rattle.rows.specs.Prelude.{itemAt, shelfAt}
+-- Where a request goes, by reads along the chains: the shelf chain, and the free list of a shelf, as far as used rows are met there. Assumes nothing.
+use Rattle.numbers.specs.Library.{ℕ, _≡_, _⊎_, Bool, true, false, not, _&&_, _||_, List, [], _∷_, leb, ltb, eqb}
+use Rattle.numbers.specs.Prelude.{pick, goodFitTo, noRow, noShelf, noItem}
+use Rattle.numbers.specs.declared.{index.ItemIndex.ItemIndex, request.Asked.Asked}
+use Rattle.rows.specs.Prelude.{get, items, shelves}
 use Rattle.rows.specs.declared.{header.Header.Header, shelf.ShelfRow.ShelfRow}
-use Rattle.search.specs.declared.{Place.Place, Held.Held}
-use Rattle.search.specs.declared.Held.the-variants.{Nothing, Good, Bad}
+use Rattle.chains.specs.Prelude.{rowsFrom}
+use Rattle.rules.specs.Prelude.{shelfNext, freeNext}
+use Rattle.search.specs.declared.Place.{Place}
+
+-- What the walk holds: an item of a shelf, and the depth of that shelf if it is a good fit.
+pub data Held : Type 0 where
+  nothing : Held
+  good : Place → ℕ → Held
+  bad : Place → Held
+
+-- the place that is held, or none
+unfoldable pub placeOf : Held → Place
+placeOf nothing = record { shelf = noShelf; item = noItem }
+placeOf (good p depth) = p
+placeOf (bad p) = p
+
+-- this place is held, as a good fit of some depth or as a bad fit
+abbrev pub IsHeld : Place → Held → Type 0
+IsHeld p held = ((depth : ℕ) × (held ≡ good p depth)) ⊎ (held ≡ bad p)
 
 -- ---- in a shelf
 
--- the first item of the free list from `at` on that is at least as wide as asked, or no row
-unfoldable pub firstWide : List ℕ → ℕ → ItemIndex → ℕ → ItemIndex
-firstWide I width at zero = noItem
-firstWide I width at (suc steps) =
-    pick (eqb (at .0) noRow) noItem
-    (pick (leb width (itemAt I at .width)) at (firstWide I width (itemAt I at .«next_unallocated») steps))
+-- the first of these rows whose item is at least as wide as asked, or no row
+unfoldable pub firstWide : List ℕ → ℕ → List ℕ → ItemIndex
+firstWide I width [] = noItem
+firstWide I width (r ∷ rest) = pick (leb width (get items I r .width)) (record { 0 = r }) (firstWide I width rest)
 
 unfoldable pub shelfIsEmpty : ShelfRow → Bool
 shelfIsEmpty s = eqb (s .«is_empty») 1
@@ -23,71 +38,57 @@ shelfIsEmpty s = eqb (s .«is_empty») 1
 
 -- "Skip a shelf shallower than D, or not shallower than the good fit held."
 unfoldable pub passedBy : Asked → Held → ShelfRow → Bool
-passedBy a Nothing s = ltb (s .height) (a .depth)
-passedBy a (Good g) s = ltb (s .height) (a .depth) || leb (g .height) (s .height)
-passedBy a (Bad b) s = ltb (s .height) (a .depth)
+passedBy a nothing s = ltb (s .height) (a .depth)
+passedBy a (good p depth) s = ltb (s .height) (a .depth) || leb depth (s .height)
+passedBy a (bad p) s = ltb (s .height) (a .depth)
 
 -- "A shelf that is not empty and deeper than D + D/2 (halves dropped; 65535 at most) is a bad fit, skipped if anything is held."
-unfoldable pub isBadFit : Asked → ShelfRow → Bool
-isBadFit a s = not (shelfIsEmpty s) && ltb (goodFitTo (a .depth)) (s .height)
+unfoldable pub isBadFit : ℕ → ShelfRow → Bool
+isBadFit goodTo s = not (shelfIsEmpty s) && ltb goodTo (s .height)
 
 unfoldable pub holdsAny : Held → Bool
-holdsAny Nothing = false
-holdsAny (Good g) = true
-holdsAny (Bad b) = true
+holdsAny nothing = false
+holdsAny (good p depth) = true
+holdsAny (bad p) = true
 
 unfoldable pub skipped : Asked → Held → ShelfRow → Bool
-skipped a held s = passedBy a held s || (isBadFit a s && holdsAny held)
+skipped a held s = passedBy a held s || (isBadFit (goodFitTo (a .depth)) s && holdsAny held)
 
 -- what is held after the shelf s, in row `at`, that is not skipped: an item of it in place of any held, if it has one wide enough
-unfoldable pub tried : List ℕ → ℕ → Asked → Held → ShelfIndex → ShelfRow → Held
+unfoldable pub tried : List ℕ → ℕ → Asked → Held → ℕ → ShelfRow → Held
 tried I used a held at s =
-    let item : ItemIndex = firstWide I (a .width) (s .«first_unallocated») used in
-    let place : Place = record { shelf = at; item = item; height = s .height } in
-    pick (eqb (item .0) noRow) held (pick (isBadFit a s) (Bad place) (Good place))
+    let item : ItemIndex = firstWide I (a .width) (rowsFrom (freeNext I) used (s .«first_unallocated» .0)) in
+    let place : Place = record { shelf = record { 0 = at }; item = item } in
+    pick (eqb (item .0) noRow) held (pick (isBadFit (goodFitTo (a .depth)) s) (bad place) (good place (s .height)))
 
-unfoldable pub looked : List ℕ → ℕ → Asked → Held → ShelfIndex → ShelfRow → Held
+unfoldable pub looked : List ℕ → ℕ → Asked → Held → ℕ → ShelfRow → Held
 looked I used a held at s = pick (skipped a held s) held (tried I used a held at s)
 
 -- "Holding one of depth D exactly ends the walk." A shelf of depth D is never a bad fit.
 unfoldable pub isExact : Asked → Held → Bool
-isExact a Nothing = false
-isExact a (Good g) = eqb (g .height) (a .depth)
-isExact a (Bad b) = false
+isExact a nothing = false
+isExact a (good p depth) = eqb depth (a .depth)
+isExact a (bad p) = false
 
--- what is held in the end, from the shelf in row `at` on; `used` item rows
-unfoldable pub walk : List ℕ → List ℕ → ℕ → Asked → Held → ShelfIndex → ℕ → Held
-walk S I used a held at zero = held
-walk S I used a held at (suc steps) =
-    let s : ShelfRow = shelfAt S at in
-    let now-held : Held = looked I used a held at s in
-    pick (eqb (at .0) noRow) held (pick (isExact a now-held) now-held (walk S I used a now-held (s .next) steps))
+-- what is held in the end, after the shelves in these rows; `used` item rows
+unfoldable pub walk : List ℕ → List ℕ → ℕ → Asked → Held → List ℕ → Held
+walk S I used a held [] = held
+walk S I used a held (r ∷ rest) =
+    let now-held : Held = looked I used a held r (get shelves S r) in
+    pick (isExact a now-held) now-held (walk S I used a now-held rest)
 
 unfoldable pub search : Header → List ℕ → List ℕ → Asked → Held
-search h S I a = walk S I (h .«used_items») a Nothing (record { 0 = 0 }) (h .«used_shelves»)
+search h S I a = walk S I (h .«used_items») a nothing (rowsFrom (shelfNext S) (h .«used_shelves») 0)
 
--- ---- a walk with no step left, and with one more
+-- ---- the walk by the numbers that the code carries
 
-pub wide-none : (I : List ℕ) (width : ℕ) (at : ItemIndex) → firstWide I width at 0 ≡ noItem
-unfolding firstWide
-wide-none I width at = refl
+-- a shelf is looked at only if it is shallower than this: than the good fit held, and else than any
+unfoldable pub shallowerThan : Held → ℕ
+shallowerThan nothing = 65536
+shallowerThan (good p depth) = depth
+shallowerThan (bad p) = 65536
 
-pub wide-step : (I : List ℕ) (width : ℕ) (at : ItemIndex) (steps : ℕ) → 0 < steps
-    → firstWide I width at steps ≡ pick (eqb (at .0) noRow) noItem
-    (pick (leb width (itemAt I at .width)) at (firstWide I width (itemAt I at .«next_unallocated») (steps - 1)))
-unfolding firstWide
-wide-step I width at zero h = absurd (omega arith)
-wide-step I width at (suc steps) h = let e : suc steps - 1 ≡ steps = omega arith in rw e
-
-module _ (S I : List ℕ) (used : ℕ) (a : Asked) (held : Held) (at : ShelfIndex) where
-  pub walk-none : walk S I used a held at 0 ≡ held
-  unfolding walk
-  walk-none = refl
-
-  pub walk-step : (steps : ℕ) → 0 < steps
-      → walk S I used a held at steps ≡ pick (eqb (at .0) noRow) held
-      (pick (isExact a (looked I used a held at (shelfAt S at))) (looked I used a held at (shelfAt S at))
-      (walk S I used a (looked I used a held at (shelfAt S at)) (shelfAt S at .next) (steps - 1)))
-  unfolding walk
-  walk-step zero h = absurd (omega arith)
-  walk-step (suc steps) h = let e : suc steps - 1 ≡ steps = omega arith in rw e
+-- whether a shelf is skipped, by that depth and the item held
+unfoldable pub skippedBy : ℕ → ℕ → ℕ → ItemIndex → ShelfRow → Bool
+skippedBy depth goodTo below item s =
+    (ltb (s .height) depth || leb below (s .height)) || (isBadFit goodTo s && not (eqb (item .0) noRow))

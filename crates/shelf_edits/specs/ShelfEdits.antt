@@ -26,19 +26,18 @@ unfoldable pub lowerOf : ShelfRow → ShelfIndex → ℕ → ItemIndex → Shelf
 lowerOf s at depth item =
     withY (plus16 (s .y) depth) (withHeight (minus16 (s .height) depth) (withShelfPrev at (withFirstItem item (withFirstFree item (withEmpty 1 s)))))
 
-unfoldable pub splitShelfTable : Header → List ℕ → ShelfIndex → ℕ → List ℕ
-splitShelfTable h S at depth =
-    let s : ShelfRow = shelfAt S at in
+unfoldable pub splitShelfTable : Header → List ℕ → ShelfIndex → ShelfRow → ℕ → List ℕ
+splitShelfTable h S at s depth =
     changeShelf (changeShelf (addShelf S h (lowerOf s at depth (newItem h))) at (withReach depth (newShelf h))) (s .next) (withShelfPrev (newShelf h))
 
--- the shelf row is taken first, then the item row
-unfoldable pub splitShelf : State → ShelfIndex → ℕ → State
-splitShelf st at depth =
+-- shelf s, which lies in row `at`: the shelf row is taken first, then the item row
+unfoldable pub splitShelf : State → ShelfIndex → ShelfRow → ℕ → State
+splitShelf st at s depth =
     let h : Header = shelfTaken (st .shelves) (st .header) in
     record {
       header = itemTaken (st .items) h;
-      shelves = splitShelfTable (st .header) (st .shelves) at depth;
-      items = addItem (st .items) h (loneItem (shelfAt (st .shelves) at .x) (st .header .limits .«shelf_width») (newShelf (st .header)));
+      shelves = splitShelfTable (st .header) (st .shelves) at s depth;
+      items = addItem (st .items) h (loneItem (s .x) (st .header .limits .«shelf_width») (newShelf (st .header)));
     }
 
 -- ---- the shelf in row `at` merged into `above`, which it follows: its item row is freed, then its shelf row
@@ -60,10 +59,10 @@ mergeShelves st above at =
 
 -- ---- no edit changes a table's length
 
-pub length-splitShelf : (st : State) (at : ShelfIndex) (depth : ℕ)
-    → (length (splitShelf st at depth .shelves) ≡ length (st .shelves)) × (length (splitShelf st at depth .items) ≡ length (st .items))
+pub length-splitShelf : (st : State) (at : ShelfIndex) (s : ShelfRow) (depth : ℕ)
+    → (length (splitShelf st at s depth .shelves) ≡ length (st .shelves)) × (length (splitShelf st at s depth .items) ≡ length (st .items))
 unfolding splitShelf splitShelfTable addItem addShelf
-length-splitShelf st at depth = (simp (length-change, length-put), simp length-put)
+length-splitShelf st at s depth = (simp (length-change, length-put), simp length-put)
 
 pub length-mergeShelves : (st : State) (above at : ShelfIndex)
     → (length (mergeShelves st above at .shelves) ≡ length (st .shelves)) × (length (mergeShelves st above at .items) ≡ length (st .items))

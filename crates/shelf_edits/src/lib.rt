@@ -1,6 +1,7 @@
 // An empty shelf split in two, and two shelves merged.
 ghost use mathlib.Core.Path.{_≡_};
-ghost use Rattle.rows.specs.Prelude.{changeShelf, withShelfPrev};
+ghost use Prim.Native.Nat.{_<_};
+ghost use Rattle.rows.specs.Prelude.{shelfCapacity, changeShelf, withShelfPrev};
 ghost use Rattle.pool.specs.Pool.{newItem};
 ghost use Rattle.shelf_edits.specs.State.{state, Are};
 ghost use Rattle.shelf_edits.specs.ShelfEdits.{withReach, withFree, lowerOf, splitShelf, joinShelves, mergeShelves};
@@ -30,12 +31,13 @@ pub fn set_reach(shelves: &mut [u16], at: ShelfIndex, height: u16, next: ShelfIn
 }
 
 pub fn set_free(shelves: &mut [u16], at: ShelfIndex, first: ItemIndex, empty: u16)
+    requires { ⌜ at .0 < shelfCapacity (now shelves) ⌝ }
     ensures { λ _. ⌜ now (shelves .exit) ≡ changeShelf (now (shelves .entry)) at (withFree first empty) ⌝ }
 {
-    let mut s = shelf::get_shelf(shelves, at);
+    let mut s = shelf::shelf_there(shelves, at);
     s.first_unallocated = first;
     s.is_empty = empty;
-    shelf::put_shelf(shelves, at, s);
+    shelf::put_shelf_there(shelves, at, s);
 }
 
 // ---- a shelf in two
@@ -65,17 +67,17 @@ pub fn lower_of(s: ShelfRow, at: ShelfIndex, depth: u16, item: ItemIndex) -> She
     v
 }
 
-// The shelf keeps `depth`; a new empty one, which has its shelf row and item row taken in this order, follows it.
+// Shelf s, which lies in row `at`, keeps `depth`; a new empty one, which has its shelf row and item row taken in this order, follows it.
 pub fn split_shelf(
     h: Header,
     shelves: &mut [u16],
     items: &mut [u16],
     at: ShelfIndex,
+    s: ShelfRow,
     depth: u16,
 ) -> Header
-    ensures { λ r. ⌜ Are (splitShelf (state h (now (shelves .entry)) (now (items .entry))) at depth) r (now (shelves .exit)) (now (items .exit)) ⌝ }
+    ensures { λ r. ⌜ Are (splitShelf (state h (now (shelves .entry)) (now (items .entry))) at s depth) r (now (shelves .exit)) (now (items .exit)) ⌝ }
 {
-    let s = shelf::get_shelf(shelves, at);
     let next = s.next;
     let added = pool::add_shelf(h, shelves, lower_of(s, at, depth, next_item(h)));
     let new = added.idx;

@@ -107,6 +107,7 @@ module _ (st : State) (a : Atlas) (bs : List Shelf) (s : Shelf) (ys : List Shelf
   listed-after : Each FreeListed ys
   listed-after = listings .1 .1
 
+  -- what an opened shelf asks is what stands in the tables, but for the order in which the rows in use are named
   pub open-shelf : Open I I (s .row) (s .items) (s .free) (a .rows .items) others
   open-shelf = record {
     lie = held-here .in-order;
@@ -131,6 +132,7 @@ module _ (st : State) (a : Atlas) (bs : List Shelf) (s : Shelf) (ys : List Shelf
   module _ (I′ : List ℕ) (is : List Item) (free-list : List ℕ) (p : Pool Freed) (opened : Open I I′ (s .row) is free-list p others)
       (first : firstRow (item (s .row) .row) is ≡ firstRow (item (s .row) .row) (s .items))
       (first-free : ItemIndex) (empty-flag : ℕ) (first-free-is : first-free .0 ≡ firstOf free-list) (empty-flag-is : empty-flag ≡ flag (isEmpty is)) where
+    -- one shelf row is written; the item rows of the other shelves are as they were, since the shelf was open all along
     close-lies : (h : Header) → h ≡ headerOf (reshelved a bs (holding s is free-list) ys p)
         → Stores h (change shelves S (s .row) (withFree first-free empty-flag)) I′ (reshelved a bs (holding s is free-list) ys p)
     unfolding holding withFree withFirstFree withEmpty

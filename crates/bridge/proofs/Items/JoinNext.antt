@@ -10,7 +10,7 @@ use Rattle.pool.specs.Pool.{removeItem, freedItemRow}
 use Rattle.rows.specs.declared.header.Header.{Header}
 use Rattle.rules.specs.Prelude.{Item, Freed, Pool, resized, freeing, item, free, noLinks, liveRows, freeRows, freedItem, itemRows, freedRows, Shared}
 use Rattle.wrap.specs.Wrap.{plus16-is}
-use Rattle.live.specs.Live.{atRow}
+use Rattle.live_rows.specs.Live.{atRow}
 use Rattle.item_edits.specs.ItemEdits.{withSpan, joinNext}
 use Rattle.bridge.proofs.Items.RowViews.{sights, bodyPrev, bodySpan, says-prev, says-span, seen-next, seen-width, seen-generation}
 use Rattle.rules.proofs.LiveRows.{a-free, live-row}

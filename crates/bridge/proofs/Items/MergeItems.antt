@@ -9,7 +9,7 @@ use Rattle.rows.specs.Prelude.{get, change, items, withUsedItems, withFreeItems
 use Rattle.pool.specs.Pool.{itemFreed}
 use Rattle.rows.specs.declared.header.Header.{Header}
 use Rattle.rules.specs.Prelude.{Item, Freed, Pool, Rows, replaceRow, Loose, freeing, freeItemRow, freeWith, mergeNext, mergeInto, flag, freeRows}
-use Rattle.live.specs.Live.{atRow}
+use Rattle.live_rows.specs.Live.{atRow}
 use Rattle.item_edits.specs.ItemEdits.{markFree, unlist, enlist, joinNext, firstAfter}
 use Rattle.merge_items.specs.MergeItems.{Loose as Loosened, isFreeItem, absorbNext, mergeNext as nextMerged, mergeInto as intoMerged}
 use Rattle.laws.proofs.Shape.Around.{known-no as chosen-no}

@@ -8,8 +8,9 @@ use Rattle.chains.proofs.Prelude.{not-out, distinct-left, distinct-apart, onto-
 use Rattle.chains.proofs.Prelude.{ne-first, chain-swap, chain-remove}
 use Rattle.rows.specs.Prelude.{rows, get, rows-few, change, rows-change, items, withPrevFree, withNextFree, bodyOf, linksOf}
 use Rattle.rules.specs.Prelude.{Item, Freed, Pool, item, free, noLinks, liveRows, freeRows, freedItem, itemRows, freedRows, Shared}
-use Rattle.live.specs.Live.{atRow}
-use Rattle.item_edits.specs.ItemEdits.{withLinks, unlist, relist, enlist}
+use Rattle.rows.specs.declared.item.ItemRow.{ItemRow}
+use Rattle.live_rows.specs.Live.{atRow}
+use Rattle.item_edits.specs.ItemEdits.{withLinks, unlistRow, unlist, relist, enlist}
 use Rattle.bridge.proofs.Items.RowViews.{sights, linksPrev, linksNext, links, seen-prevFree, seen-nextFree}
 use Rattle.rules.proofs.LiveRows.{live-row, free-row, live-free}
 
@@ -111,15 +112,16 @@ module _ {I₀ I : List ℕ} {on : ℕ} {is : List Item} {q : Pool Freed} {other
   abbrev after-unlist : List ℕ
   after-unlist = change items (change items I prev (withNextFree (atRow next))) next (withPrevFree (atRow prev))
 
-  unlist-is : unlist I (atRow row) ≡ after-unlist
-  unfolding unlist
-  unlist-is = rw (seen-prevFree (get items I row) links-are, seen-nextFree (get items I row) links-are)
+  -- by a row that has its links
+  unlist-is : (v : ItemRow) → linksOf v ≡ record { prev = prev; next = next } → unlistRow I v ≡ after-unlist
+  unfolding unlistRow
+  unlist-is v links-v = rw (seen-prevFree v links-v, seen-nextFree v links-v)
 
-  pub unlist-open : Open I₀ (unlist I (atRow row)) on is (backOnto fb fa) q others
+  pub unlist-row-open : (v : ItemRow) → linksOf v ≡ record { prev = prev; next = next } → Open I₀ (unlistRow I v) on is (backOnto fb fa) q others
   unfolding linksPrev linksNext
-  unlist-open =
+  unlist-row-open v links-v =
       let (once-before, once-from, apart) = onto-apart one fb (row ∷ fa) (o .free-once) in
-      rw unlist-is
+      rw (unlist-is v links-v)
       (relisted o after-unlist (backOnto fb fa) (simp rows-change) (λ r. simp sights) (λ r k out. let (a, b) = unlisted r k out in simp sights)
       (chain-remove free (λ r. linksOf (get items I r)) (λ r. linksOf (get items after-unlist r)) fb row fa (o .free-once) listed-some
       (linksNext next) (linksPrev prev) (λ m y. refl) (λ y m. refl)
@@ -130,17 +132,22 @@ module _ {I₀ I : List ℕ} {on : ℕ} {is : List Item} {q : Pool Freed} {other
       (apart-onto one fb fa once-before (once-from .1) (λ r m k. apart r m (List·Memᴰ·tail k)))
       (λ r m. o .only r (in-onto one r fb (row ∷ fa) (⊎-elim (λ k. inl k) (λ k. inr (List·Memᴰ·tail k)) (onto-in one r fb fa m)))))
 
-  -- a new row in its place
-  module _ (new : ℕ) (new-free : new ∈ freeRows is) (new-out : new ∈ listed (backOnto fb (row ∷ fa)) → ⊥) where
+  pub unlist-open : Open I₀ (unlist I (atRow row)) on is (backOnto fb fa) q others
+  unfolding unlist
+  unlist-open = unlist-row-open (get items I row) links-are
+
+  -- a new row that has its links in its place
+  module _ (v : ItemRow) (links-v : linksOf v ≡ record { prev = prev; next = next })
+      (new : ℕ) (new-free : new ∈ freeRows is) (new-out : new ∈ listed (backOnto fb (row ∷ fa)) → ⊥) (new-links : linksOf (get items I new) ≡ linksOf v) where
     abbrev after-relist : List ℕ
-    after-relist = change items (change items (change items I new (withLinks (atRow prev) (atRow next))) prev (withNextFree (atRow new))) next (withPrevFree (atRow new))
+    after-relist = change items (change items I prev (withNextFree (atRow new))) next (withPrevFree (atRow new))
 
-    relist-is : relist I (atRow row) (atRow new) ≡ after-relist
+    relist-is : relist I v (atRow new) ≡ after-relist
     unfolding relist
-    relist-is = rw (seen-prevFree (get items I row) links-are, seen-nextFree (get items I row) links-are)
+    relist-is = rw (seen-prevFree v links-v, seen-nextFree v links-v)
 
-    pub relist-open : Open I₀ (relist I (atRow row) (atRow new)) on is (backOnto fb (new ∷ fa)) q others
-    unfolding linksPrev linksNext links
+    pub relist-open : Open I₀ (relist I v (atRow new)) on is (backOnto fb (new ∷ fa)) q others
+    unfolding linksPrev linksNext
     relist-open =
         let (once-before, once-from, apart) = onto-apart one fb (row ∷ fa) (o .free-once) in
         let in-before : (r : ℕ) → r ∈ listed fb → r ∈ listed (backOnto fb (row ∷ fa)) = λ r m. in-onto one r fb (row ∷ fa) (inl m) in
@@ -156,7 +163,7 @@ module _ {I₀ I : List ℕ} {on : ℕ} {is : List Item} {q : Pool Freed} {other
         (λ r m a b c. let d : r ≢ new = not-out new-out m in simp sights)
         (λ r m a e c. let d : r ≢ new = not-out new-out m in rw (← e) (simp (sights, listed-there r m)))
         (λ r m a b e. let d : r ≢ new = not-out new-out m in rw (← e) (simp (sights, listed-there r m)))
-        (λ c. simp (sights, there o new new-row))
+        (λ c. simp sights (new-links ∙ links-v))
         (o .list))
         (apart-onto one fb (new ∷ fa) once-before (λ m. new-out (in-after new m), once-from .1)
         (λ r m k. ⊎-elim (λ e. new-out (Memᴰ·cast (sym e) (in-before r m))) (λ w. apart r m (List·Memᴰ·tail w)) (List·Memᴰ·cases-cons k)))

@@ -12,12 +12,12 @@ use Rattle.rules.specs.Prelude.{Item, Shelf, Freed, Pool, Atlas, isEmpty, liveA
 use Rattle.rules.specs.Prelude.{headerOf, allItemRows, AllListed}
 use Rattle.wrap.specs.Wrap.{minus32-is}
 use Rattle.shelf_edits.specs.State.{State}
-use Rattle.live.specs.Live.{atRow, areaAt}
+use Rattle.live_rows.specs.Live.{atRow, areaAt}
 use Rattle.item_edits.specs.ItemEdits.{markFree, unlist, enlist, joinNext, firstAfter}
 use Rattle.shelf_edits.specs.ShelfEdits.{withFree}
 use Rattle.merge_items.specs.MergeItems.{Loose as Loosened, isFreeItem, absorbNext, mergeNext as nextMerged, mergeInto as intoMerged, loosen, oneFree}
 use Rattle.merge.specs.Merge.{withAreaRemoved as vacate, loosened, releaseItem}
-use Rattle.bridge.proofs.Items.RowViews.{seen-next, seen-allocated}
+use Rattle.bridge.proofs.Items.RowViews.{seen-next, seen-allocated, seen-width, seen-shelf}
 use Rattle.rules.proofs.LiveRows.{live-free}
 use Rattle.bridge.proofs.Items.SumsAndFreeLists.{area-onto, occupied-onto}
 use Rattle.bridge.proofs.Stands.{Stands, onRow, shelf-says}
@@ -26,9 +26,14 @@ use Rattle.bridge.proofs.Items.PoolRows.{withPool}
 use Rattle.bridge.proofs.Items.OpenShelf.{Open, once, some}
 use Rattle.bridge.proofs.Items.MarkItem.{liveOf, at-in, body-is}
 use Rattle.bridge.proofs.Items.CloseShelf.{reshelved, open-shelf, close-stands, close-header}
-use Rattle.bridge.proofs.Items.GrantItem.{area-is}
 use Rattle.bridge.proofs.Items.MergeItems.{Loosely, marked, next-merged, into-merged}
 use Rattle.bridge.proofs.Items.MergesKeep.{itemsOf, Steady, Between, next-between, next-steady, into-steady}
+
+-- the area of an item of an opened shelf, as the code reads it
+area-is : {I₀ I : List ℕ} {on : ℕ} {fl : List ℕ} {p : Pool Freed} {others : List ℕ} (ib : List Item) (i : Item) (ia : List Item)
+    → Open I₀ I on (backOnto ib (i ∷ ia)) fl p others → (S : List ℕ) (d : ℕ) → get shelves S on .height ≡ d → areaAt S I (atRow (i .row)) ≡ i .width * d
+unfolding areaAt
+area-is {I = I} ib i ia o S d e = rw (seen-width (get items I (i .row)) (body-is ib i ia o), seen-shelf (get items I (i .row)) (body-is ib i ia o), e)
 
 -- what the code's flag is read from: one item is left, and it is free
 one-free : {I₀ I : List ℕ} {on : ℕ} {fl : List ℕ} {p : Pool Freed} {others : List ℕ} (is : List Item) → Open I₀ I on is fl p others

@@ -27,7 +27,7 @@ bodyMark flag = inBody (withAllocated flag)
 
 -- what is left of an item in row `at`, free, in a row of its own
 unfoldable pub bodyRest : ℕ → ℕ → ℕ → Body → Body
-unfolding inBody restOf withLinks withGeneration withItemX withWidth withItemPrev withPrevFree withNextFree withAllocated
+unfolding inBody restOf withGeneration withItemX withWidth withItemPrev withAllocated
 bodyRest at width generation = inBody (λ v. withGeneration generation (restOf v (record { 0 = at }) width))
 
 -- a free item that has its shelf to itself
@@ -70,8 +70,8 @@ module _ (v : ItemRow) (n : ItemIndex) where
   unfolding bodyRest
   body-restOf w g = refl
 
-  pub links-restOf : (w g : ℕ) → linksOf (withGeneration g (restOf v n w)) ≡ noLinks
-  unfolding linksOf restOf withLinks withGeneration withItemX withWidth withItemPrev withPrevFree withNextFree withAllocated
+  pub links-restOf : (w g : ℕ) → linksOf (withGeneration g (restOf v n w)) ≡ linksOf v
+  unfolding linksOf restOf withGeneration withItemX withWidth withItemPrev withAllocated
   links-restOf w g = refl
 
   pub links-withPrevFree : linksOf (withPrevFree n v) ≡ linksPrev (n .0) (linksOf v)

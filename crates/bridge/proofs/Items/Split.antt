@@ -1,4 +1,5 @@
--- An item of an opened shelf split in two: its row keeps the left part, and the rest, free and on no list, is in a new row. Assumes nothing.
+-- An item of an opened shelf split in two: its row keeps the left part, and the rest, free and on no list, is in a new row. `v` is the item's row as it
+-- was read. Assumes nothing.
 use Rattle.numbers.specs.Library.{ℕ, _<_, _≤_, _+_, _-_, _≡_, refl, sym, ap, _∙_, _≢_, _⊎_, inl, inr, ⊎-elim, true, List, _∷_, _++_, List·Memᴰ·tail}
 use Rattle.numbers.specs.Library.{List·Memᴰ·append-cases, Memᴰ·cast, Memᴰ·append-left, Memᴰ·append-right, arith, ltb, lt-ltb}
 use Rattle.numbers.specs.Prelude.{noRow}
@@ -6,22 +7,23 @@ use Rattle.chains.specs.Prelude.{_∈_, Distinct, gather, backOnto, firstRow, C
 use Rattle.chains.proofs.Prelude.{not-out, distinct-append, distinct-right, distinct-apart, in-onto, onto-map, chain-frame, ne-first, chain-insert, rows-insert}
 use Rattle.rows.specs.Prelude.{rows, get, put, rows-few, rows-put, change, rows-change, items, withItemPrev, withGeneration, bodyOf, linksOf}
 use Rattle.pool.specs.Pool.{addItem, freedItemRow}
-use Rattle.rows.specs.declared.header.Header.{Header}
+use Rattle.rows.specs.declared.{header.Header.Header, item.ItemRow.ItemRow}
 use Rattle.rules.specs.Prelude.{Item, Freed, Pool, resized, freeItem, newRow, newGeneration, taken, rowsLeft, item, free, noLinks, liveRows, freeRows, freedItem, itemRows}
 use Rattle.rules.specs.Prelude.{freedRows, Shared}
 use Rattle.wrap.specs.Wrap.{plus16-is, minus16-is}
-use Rattle.live.specs.Live.{atRow}
+use Rattle.live_rows.specs.Live.{atRow}
 use Rattle.item_edits.specs.ItemEdits.{withSpan, restOf, splitItem}
 use Rattle.bridge.proofs.Items.RowViews.{sights, bodyPrev, bodySpan, bodyRest, says-prev, says-span, seen-next}
 use Rattle.rules.proofs.LiveRows.{live-row}
 use Rattle.bridge.proofs.Items.PoolRows.{freedRow, Fresh, fresh, taken-shared, taken-chain, item-new, item-generation}
 use Rattle.bridge.proofs.Items.OpenShelf.{Open, once, there, some, used-some, listed, listed-row}
-use Rattle.bridge.proofs.Items.MarkItem.{liveOf, freeOf, rowOf, at-in, body-is}
+use Rattle.bridge.proofs.Items.MarkItem.{liveOf, freeOf, rowOf, at-in}
 
 module _ {I₀ I : List ℕ} {on : ℕ} {fl : List ℕ} {p : Pool Freed} {others : List ℕ} (ib : List Item) (i : Item) (ia : List Item)
     (o : Open I₀ I on (backOnto ib (i ∷ ia)) fl p others)
     (h : Header) (head : h .«free_items» .0 ≡ firstRow freedRow (p .freed)) (used : h .«used_items» ≡ p .used) (left : 0 < rowsLeft (rows items I) p)
-    (width : ℕ) (within : width ≤ i .width) (narrow : i .x + i .width ≤ 65535) where
+    (width : ℕ) (within : width ≤ i .width) (narrow : i .x + i .width ≤ 65535)
+    (v : ItemRow) (body-v : bodyOf v ≡ item on .says (firstRow (item on .row) ib) i (firstRow (item on .row) ia)) where
   abbrev is : List Item
   is = backOnto ib (i ∷ ia)
 
@@ -56,16 +58,16 @@ module _ {I₀ I : List ℕ} {on : ℕ} {fl : List ℕ} {p : Pool Freed} {others
   abbrev I′ : List ℕ
   I′ =
       change items
-      (change items (put items I new (withGeneration (newGeneration p) (restOf (get items I (i .row)) (atRow (i .row)) width))) (i .row) (withSpan width (atRow new)))
+      (change items (put items I new (withGeneration (newGeneration p) (restOf v (atRow (i .row)) width))) (i .row) (withSpan width (atRow new)))
       (firstRow (item on .row) ia) (withItemPrev (atRow new))
 
-  split-is : splitItem h I (atRow (i .row)) width ≡ I′
+  split-is : splitItem h I (atRow (i .row)) v width ≡ I′
   unfolding splitItem addItem
   split-is =
       rw (
         item-new I h (itemRows is ++ others) p head used (o .room) left (o .shared) (o .freed),
         item-generation I h (itemRows is ++ others) p head used (o .room) left (o .shared) (o .freed),
-        seen-next (get items I (i .row)) (body-is ib i ia o),
+        seen-next v body-v,
       )
 
   links-stay : (r : ℕ) → r ≢ new → linksOf (get items I′ r) ≡ linksOf (get items I r)
@@ -119,7 +121,7 @@ module _ {I₀ I : List ℕ} {on : ℕ} {fl : List ℕ} {p : Pool Freed} {others
       (λ r m a e. let c : r ≢ new = not-out new-out m in rw (← e) (simp (sights, there o r m)))
       (λ c b. (
         simp (sights, there o (i .row) at) (ap (bodySpan width new) c ∙ says-span on _ _ i width new),
-        simp (sights, new-there) (ap (bodyRest (i .row) width (newGeneration p)) c ∙ rest-says _ _),
+        simp (sights, new-there) (ap (bodyRest (i .row) width (newGeneration p)) body-v ∙ rest-says _ _),
       ))
       (o .lie)
 
@@ -153,7 +155,14 @@ module _ {I₀ I : List ℕ} {on : ℕ} {fl : List ℕ} {p : Pool Freed} {others
       (λ k. distinct-apart (itemRows is) others (o .shared .serving-once) r k m)
       ∙ o .same r m
 
-  pub split-open : Open I₀ (splitItem h I (atRow (i .row)) width) on split-items fl (taken p) others
+  -- the new row has the links of the row that was split
+  pub new-links : linksOf (get items (splitItem h I (atRow (i .row)) v width) new) ≡ linksOf v
+  new-links =
+      let ne : new ≢ i .row = λ e. new-out (Memᴰ·cast e (at-in ib i ia o)) in
+      let nn : new ≢ firstRow (item on .row) ia = ne-first (item on) ia new new-some (λ m. new-out (next-in new m)) in
+      rw split-is (simp (sights, new-there))
+
+  pub split-open : Open I₀ (splitItem h I (atRow (i .row)) v width) on split-items fl (taken p) others
   split-open = rw split-is (record {
     lie = items-lie;
     list = free-list-lies;

@@ -3,11 +3,11 @@ use Rattle.numbers.specs.Library.{ℕ, zero, suc, _≤_, _<_, _≡_, refl, sym,
 use Rattle.numbers.specs.Prelude.{pick}
 use Rattle.rows.specs.Prelude.{get, items}
 use Rattle.rows.specs.declared.header.Header.{Header}
-use Rattle.rules.specs.Prelude.{Atlas, liveOf, Found, find, liveIn, livesBelow, list, Stores, headerOf, roomIn, WellFormed}
+use Rattle.rules.specs.Prelude.{Atlas, liveOf, Found, find, liveIn, livesBelow, list, Stores, roomIn, WellFormed}
 use Rattle.laws.proofs.Shape.Finding.{FoundAt, find-at}
-use Rattle.live.specs.Live.{liveAt, rowListed, rowsListed}
+use Rattle.live_rows.specs.Live.{liveAt, rowListed, rowsListed}
 use Rattle.rules.proofs.Flags.{flag-one}
-use Rattle.bridge.proofs.Search.LookUp.{idle, told, allocated-says}
+use Rattle.bridge.proofs.Search.LookUp.{idle, told, used-is, allocated-says}
 
 module _ (h : Header) (S I : List ℕ) (a : Atlas) (stored : Stores h S I a) (formed : WellFormed (roomIn S I) a) where
   row-says : (r : ℕ) → r < a .rows .items .used → liveIn a r ≡ rowListed h S I r
@@ -25,7 +25,5 @@ module _ (h : Header) (S I : List ℕ) (a : Atlas) (stored : Stores h S I a) (fo
   below-says (suc n) b = rw (below-says n (omega arith), row-says n (omega arith))
 
   pub list-says : list a ≡ rowsListed h S I (h .«used_items»)
-  unfolding list headerOf
-  list-says =
-      let used : h .«used_items» ≡ a .rows .items .used = ap (λ (q : Header). q .«used_items») (stored .header) in
-      below-says (a .rows .items .used) (omega arith) ∙ ap (rowsListed h S I) (sym used)
+  unfolding list
+  list-says = below-says (a .rows .items .used) (omega arith) ∙ ap (rowsListed h S I) (sym (used-is h S I a stored formed))

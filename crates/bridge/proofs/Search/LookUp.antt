@@ -1,8 +1,9 @@
--- Look-up: an id names a live item of the tables exactly when it names one of the atlas, and the answer tells the same of both. Assumes nothing.
+-- Look-up: an id names a live item of the tables exactly when it names one of the atlas, the answer tells the same of both, and each row that is
+-- read for it is there. Assumes nothing.
 use Rattle.numbers.specs.Library.{ℕ, _≤_, _<_, _≡_, refl, sym, ap, _∙_, inr, ⊎-elim, Bool, true, false, _&&_, Option, none, some, List, [], _∷_, List·Memᴰ·head}
 use Rattle.numbers.specs.Library.{List·Memᴰ·not-nil, List·Memᴰ·cases-cons, Memᴰ·append-left, decLt, ℕ-discrete, arith, eqb, eq-eqb, ne-eqb, lt-ltb, le-ltb}
 use Rattle.numbers.specs.Prelude.{pick, noRow, both}
-use Rattle.rows.specs.Prelude.{get, items, withItemNext, withGeneration, shelves, Body, bodyOf}
+use Rattle.rows.specs.Prelude.{rows, get, items, withItemNext, withGeneration, shelves, Body, bodyOf}
 use Rattle.pool.specs.Pool.{freedItemRow}
 use Rattle.rows.specs.declared.{header.Header.Header, item.ItemRow.ItemRow}
 use Rattle.chains.specs.Prelude.{_∈_, Each, firstRow, Chain}
@@ -12,7 +13,7 @@ use Rattle.rules.specs.Prelude.{itemRows, allItemRows, freedRows, WellFormed, S
 use Rattle.laws.proofs.Shape.Around.{pick-cases}
 use Rattle.laws.proofs.Shape.Finding.{FoundAt, find-at}
 use Rattle.wrap.specs.Wrap.{plus16-is}
-use Rattle.live.specs.Live as table
+use Rattle.live_rows.specs.Live as table
 use Rattle.bridge.proofs.Items.NoWrap.{NarrowShelf, shelf-narrow, item-narrow}
 use Rattle.rules.proofs.Flags.{flag-one}
 
@@ -71,7 +72,7 @@ module _ (h : Header) (S I : List ℕ) (a : Atlas) (stored : Stores h S I a) (fo
         plus16-is (s .y) (s .depth) (omega (arith, narrow .reach)),
       )
 
-  used-is : h .«used_items» ≡ a .rows .items .used
+  pub used-is : h .«used_items» ≡ a .rows .items .used
   unfolding headerOf
   used-is = ap (λ (q : Header). q .«used_items») (stored .header)
 
@@ -81,6 +82,15 @@ module _ (h : Header) (S I : List ℕ) (a : Atlas) (stored : Stores h S I a) (fo
       rw (found .1) (in-onto (λ (i : Item). i .row ∷ []) row (spot .item .before) (spot .item .this ∷ spot .item .after) (inr (List·Memᴰ·head (sym (found .2))))) in
       formed .sound .item-rows .serving-used row
       (rw (found .0) (in-onto (λ (s : Shelf). itemRows (s .items)) row (spot .shelf .before) (spot .shelf .this ∷ spot .shelf .after) (inr (Memᴰ·append-left (allItemRows (spot .shelf .after)) mine))))
+
+  -- the shelf that an item's row names is the one on which it is found, and that is in use
+  shelf-used : (spot : Found) (row : ℕ) → FoundAt row (a .shelves) (a .shelves) (some spot) → get items I row .shelf .0 < a .rows .shelves .used
+  unfolding bodyOf
+  shelf-used spot row found =
+      let on : ℕ = spot .shelf .this .row in
+      let named : get items I row .shelf .0 ≡ on = rw (sym (found .2)) (ap (λ (b : Body). b .shelf) (item-says h S I a stored (formed .sound) spot (found .0, found .1, refl))) in
+      rw named (formed .sound .shelf-rows .serving-used on
+      (rw (found .0) (in-onto (λ (s : Shelf). s .row ∷ []) on (spot .shelf .before) (spot .shelf .this ∷ spot .shelf .after) (inr (List·Memᴰ·head refl)))))
 
   -- the flag of a row is that of its item
   pub allocated-says : (spot : Found) (row : ℕ) → FoundAt row (a .shelves) (a .shelves) (some spot) → get items I row .allocated ≡ flag (spot .item .this .live)
@@ -124,3 +134,14 @@ module _ (h : Header) (S I : List ℕ) (a : Atlas) (stored : Stores h S I a) (fo
     go (some spot) found =
         pick-cases (LiveSays row generation) (names row generation (spot .item .this)) (some spot) none
         (λ e. (live-same spot row generation found ∙ e, found, named-live row generation spot e)) (λ e. live-same spot row generation found ∙ e)
+
+  -- a used row that is live is on a shelf
+  pub rows-there : table.LiveRowsThere h S I
+  unfolding roomIn
+  rows-there = record {
+    used-there = omega (arith, used-is, formed .sound .in-room .items);
+    shelf-there = λ r b live. go r (omega (arith, used-is)) live (find r [] (a .shelves)) (find-at r [] (a .shelves));
+  } where
+    go : (r : ℕ) → r < a .rows .items .used → get items I r .allocated ≡ 1 → (o : Option Found) → FoundAt r (a .shelves) (a .shelves) o → get items I r .shelf .0 < rows shelves S
+    go r b live none out = absurd (omega (arith, live, idle h S I a stored (formed .sound) r b out))
+    go r b live (some spot) found = omega (arith, shelf-used spot r found, formed .sound .in-room .shelves)

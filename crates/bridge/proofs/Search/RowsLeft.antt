@@ -4,15 +4,13 @@ use Rattle.numbers.specs.Library.{ℕ, suc, _+_, _-_, _≤_, _≡_, refl, sym, 
 use Rattle.numbers.specs.Library.{List·Memᴰ·tail, arith, length, eqb, leb, ltb, ne-eqb, le-leb, lt-leb, lt-ltb, le-ltb}
 use native.Mathlib.Decide.{decLe}
 use Rattle.numbers.specs.Prelude.{pick, noRow}
-use Rattle.numbers.specs.declared.request.Asked.{Asked}
 use Rattle.rows.specs.Prelude.{rows, get, rows-few, items, withItemNext, withGeneration, shelves}
 use Rattle.pool.specs.Pool.{freedItemRow}
 use Rattle.rows.specs.declared.{header.Header.Header, item.ItemRow.ItemRow}
 use Rattle.chains.specs.Prelude.{_∈_, firstRow, firstOf, Chain}
-use Rattle.rules.specs.Prelude.{Item, Shelf, Freed, Atlas, shelf, freedItem, Stores, headerOf, roomIn, freedRows, WellFormed}
+use Rattle.rules.specs.Prelude.{Freed, Atlas, freedItem, Stores, headerOf, roomIn, freedRows, WellFormed}
 use Rattle.rules.specs.Grant as rule
-use Rattle.spare.specs.Spare as table
-use Rattle.bridge.proofs.Search.Walking.{empty-says}
+use Rattle.plan.specs.Spare as table
 
 -- ---- counting up to what is needed
 
@@ -91,11 +89,3 @@ module _ (h : Header) (S I : List ℕ) (a : Atlas) (stored : Stores h S I a) (fo
         enough-not-few (rule.count shelf-split + rule.count item-split) (rows items I - a .rows .items .used + length (a .rows .items .freed)),
       )
       (neither (ltb (rows shelves S - a .rows .shelves .used + length (a .rows .shelves .freed)) (rule.count shelf-split)) (ltb (rows items I - a .rows .items .used + length (a .rows .items .freed)) (rule.count shelf-split + rule.count item-split)))
-
-  -- the place that a search holds: shelf s, which the rows p and n stand around, and item i of it
-  pub rows-say : (q : Asked) (s : Shelf) (p n : ℕ) → get shelves S (s .row) ≡ shelf .says p s n
-      → (i : Item) → get items I (i .row) .width ≡ i .width → (height : ℕ)
-      → table.hasRows h S I (record { shelf = record { 0 = s .row }; item = record { 0 = i .row }; height = height }) q
-      ≡ not (rule.tooFewRows (roomIn S I) (a .rows) (rule.splitsShelf q s) (rule.splitsItem q i))
-  unfolding table.hasRows table.splitsShelf table.splitsItem rule.splitsShelf rule.splitsItem
-  rows-say q s p n e i w height = rw (e, empty-says p n s, w) (enough-says (rule.splitsShelf q s) (rule.splitsItem q i))

@@ -1,18 +1,16 @@
 -- The walk of the shelf chain, from any shelf on: what the search of the tables holds at each step is what the rules' walk holds, by its rows.
 -- Assumes nothing.
-use Rattle.numbers.specs.Library.{ℕ, zero, suc, _≤_, _≡_, refl, ap, _∙_, _≢_, ⊎-elim, Bool, true, false, _&&_, _||_, Option, none, some, List, [], _∷_}
-use Rattle.numbers.specs.Library.{List·Memᴰ·head, List·Memᴰ·tail, List·Memᴰ·not-nil, List·Memᴰ·cases-cons, ℕ-discrete, arith, length, eqb, leb, eq-eqb, ne-eqb}
-use Rattle.numbers.specs.Prelude.{pick, noRow, noItem}
-use Rattle.numbers.specs.declared.{index.ItemIndex.ItemIndex, index.ShelfIndex.ShelfIndex, request.Asked.Asked}
-use Rattle.rows.specs.Prelude.{get, items, shelves, Body, Links, bodyOf, linksOf}
-use Rattle.chains.specs.Prelude.{_∈_, Each, Focus, firstRow, firstOf, Chain}
+use Rattle.numbers.specs.Library.{ℕ, _≡_, refl, ap, _≢_, ⊎-elim, Bool, true, false, _&&_, _||_, Option, none, some, List, [], _∷_}
+use Rattle.numbers.specs.Library.{List·Memᴰ·head, List·Memᴰ·tail, List·Memᴰ·not-nil, List·Memᴰ·cases-cons, ℕ-discrete, eqb, leb, eq-eqb, ne-eqb}
+use Rattle.numbers.specs.Prelude.{pick, noRow, noItem, goodFitTo}
+use Rattle.numbers.specs.declared.{index.ItemIndex.ItemIndex, request.Asked.Asked}
+use Rattle.rows.specs.Prelude.{get, items, shelves, Body, bodyOf}
+use Rattle.chains.specs.Prelude.{_∈_, Each, Focus, firstRow, firstOf, Chain, rowsFrom}
 use Rattle.chains.proofs.Prelude.{rowsOf}
 use Rattle.rules.proofs.Flags.{flag-one}
-use Rattle.rules.specs.Prelude.{Item, Shelf, isEmpty, item, free, shelf, Holds, itemRows}
+use Rattle.rules.specs.Prelude.{Item, Shelf, isEmpty, item, shelf, Holds, itemRows, freeNext}
 use Rattle.rules.specs.Search as rule
 use Rattle.search.specs.Search as table
-use Rattle.search.specs.declared.Held.{Held}
-use Rattle.search.specs.declared.Held.the-variants.{Nothing, Good, Bad}
 
 -- ---- the first item wide enough, on the free list of one shelf
 
@@ -32,52 +30,40 @@ width-says I on p (i ∷ rest) c r m =
       | no n ↦ rw (ne-eqb r (i .row) n) (width-says I on (i .row) rest (c .1) r (⊎-elim (λ e. absurd (n e)) (λ k. k) (List·Memᴰ·cases-cons m)))
     ]
 
--- Of one shelf: its items lie in the table, and its free list has no more rows than are used; each is an item's, and some row.
+-- Of one shelf: its items lie in the table, and the walk of its free list meets that list; each row of it is an item's, and some row.
 pub record Ready (I : List ℕ) (used : ℕ) (s : Shelf) : Type 0 where
   pub holds : Holds I s
-  pub short : length (s .free) ≤ used
+  pub met : rowsFrom (freeNext I) used (firstOf (s .free)) ≡ s .free
   pub listed : (r : ℕ) → r ∈ s .free → (r ∈ itemRows (s .items)) × (r ≢ noRow)
-
--- the next row of the free list, as it stands in the table
-next-part : (I : List ℕ) (r p : ℕ) (rest : List ℕ) → linksOf (get items I r) ≡ free .says p r (firstOf rest)
-    → (width steps : ℕ) → table.firstWide I width (get items I r .«next_unallocated») steps ≡ table.firstWide I width (record { 0 = firstOf rest }) steps
-unfolding linksOf
-next-part I r p rest c width steps =
-    ap (λ (n : ℕ). table.firstWide I width (record { 0 = n }) steps) (ap (λ (l : Links). l .next) c)
 
 choice : (b : Bool) (r : ℕ) (o : Option ℕ) → pick b (record { 0 = r }) (link o) ≡ link (pick b (some r) o)
 choice true r o = refl
 choice false r o = refl
 
--- a part of the free list that lies in the table, from its first row on
-wide-part : (I : List ℕ) (used : ℕ) (s : Shelf) → Ready I used s → (width p : ℕ) (rows : List ℕ) → ((r : ℕ) → r ∈ rows → r ∈ s .free)
-    → Chain free (λ r. linksOf (get items I r)) p rows → (steps : ℕ) → length rows ≤ steps
-    → table.firstWide I width (record { 0 = firstOf rows }) steps ≡ link (rule.firstWide width (s .items) rows)
+-- some rows of items, one after another
+wide-part : (I : List ℕ) (s : Shelf) → Holds I s → (width : ℕ) (rows : List ℕ) → ((r : ℕ) → r ∈ rows → r ∈ itemRows (s .items))
+    → table.firstWide I width rows ≡ link (rule.firstWide width (s .items) rows)
 unfolding table.firstWide rule.firstWide
-wide-part I used s ready width p [] within c zero h = refl
-wide-part I used s ready width p [] within c (suc steps) h = refl
-wide-part I used s ready width p (r ∷ rest) within c zero h = absurd (omega arith)
-wide-part I used s ready width p (r ∷ rest) within c (suc steps) h =
-    let (mine, some-row) = ready .listed r (within r (List·Memᴰ·head refl)) in
-    let wide : get items I r .width ≡ rule.widthOf r (s .items) = width-says I (s .row) noRow (s .items) (ready .holds .in-order) r mine in
-    let later : table.firstWide I width (get items I r .«next_unallocated») steps ≡ link (rule.firstWide width (s .items) rest) =
-    next-part I r p rest (c .0) width steps ∙ wide-part I used s ready width r rest (λ q m. within q (List·Memᴰ·tail m)) (c .1) steps (omega arith) in
-    rw (ne-eqb r noRow some-row, wide, later) (choice (leb width (rule.widthOf r (s .items))) r (rule.firstWide width (s .items) rest))
+wide-part I s holds width [] mine = refl
+wide-part I s holds width (r ∷ rest) mine =
+    let wide : get items I r .width ≡ rule.widthOf r (s .items) = width-says I (s .row) noRow (s .items) (holds .in-order) r (mine r (List·Memᴰ·head refl)) in
+    let later : table.firstWide I width rest ≡ link (rule.firstWide width (s .items) rest) = wide-part I s holds width rest (λ q m. mine q (List·Memᴰ·tail m)) in
+    rw (wide, later) (choice (leb width (rule.widthOf r (s .items))) r (rule.firstWide width (s .items) rest))
 
 -- ---- one shelf looked at
 
 -- what the walk holds, by its rows
-abbrev pub held-rows : rule.Held → Held
-held-rows rule.nothing = Nothing
-held-rows (rule.good f r) = Good (record { shelf = record { 0 = f .this .row }; item = record { 0 = r }; height = f .this .depth })
-held-rows (rule.bad f r) = Bad (record { shelf = record { 0 = f .this .row }; item = record { 0 = r }; height = f .this .depth })
+abbrev pub held-rows : rule.Held → table.Held
+held-rows rule.nothing = table.nothing
+held-rows (rule.good f r) = table.good (record { shelf = record { 0 = f .this .row }; item = record { 0 = r } }) (f .this .depth)
+held-rows (rule.bad f r) = table.bad (record { shelf = record { 0 = f .this .row }; item = record { 0 = r } })
 
 -- a shelf's row says whether it is empty
 pub empty-says : (p n : ℕ) (s : Shelf) → table.shelfIsEmpty (shelf .says p s n) ≡ isEmpty (s .items)
 unfolding table.shelfIsEmpty
 empty-says p n s = flag-one (isEmpty (s .items))
 
-bad-says : (a : Asked) (p n : ℕ) (s : Shelf) → table.isBadFit a (shelf .says p s n) ≡ rule.isBadFit a s
+bad-says : (a : Asked) (p n : ℕ) (s : Shelf) → table.isBadFit (goodFitTo (a .depth)) (shelf .says p s n) ≡ rule.isBadFit a s
 unfolding table.isBadFit rule.isBadFit table.shelfIsEmpty
 bad-says a p n s = rw (flag-one (isEmpty (s .items)))
 
@@ -114,7 +100,7 @@ found-some width is (r ∷ rest) n = chosen (leb width (rule.widthOf r is)) (rul
   chosen false o e f = f
 
 held-found : (o : Option ℕ) (bad : Bool) (held : rule.Held) (f : Focus Shelf)
-    → pick (is-none o) (held-rows held) (pick bad (Bad (record { shelf = record { 0 = f .this .row }; item = link o; height = f .this .depth })) (Good (record { shelf = record { 0 = f .this .row }; item = link o; height = f .this .depth })))
+    → pick (is-none o) (held-rows held) (pick bad (table.bad (record { shelf = record { 0 = f .this .row }; item = link o })) (table.good (record { shelf = record { 0 = f .this .row }; item = link o }) (f .this .depth)))
     ≡ held-rows (elim o [ none ↦ held | some r ↦ pick bad (rule.bad f r) (rule.good f r) ])
 unfolding is-none
 held-found none bad held f = refl
@@ -122,19 +108,16 @@ held-found (some r) true held f = refl
 held-found (some r) false held f = refl
 
 module _ (I : List ℕ) (used : ℕ) (a : Asked) (held : rule.Held) (f : Focus Shelf) (ready : Ready I used (f .this)) (p n : ℕ) where
-  abbrev at : ShelfIndex
-  at = record { 0 = f .this .row }
+  wide : table.firstWide I (a .width) (rowsFrom (freeNext I) used (firstOf (f .this .free))) ≡ link (rule.firstWide (a .width) (f .this .items) (f .this .free))
+  wide = rw (ready .met) (wide-part I (f .this) (ready .holds) (a .width) (f .this .free) (λ r m. ready .listed r m .0))
 
-  wide : table.firstWide I (a .width) (record { 0 = firstOf (f .this .free) }) used ≡ link (rule.firstWide (a .width) (f .this .items) (f .this .free))
-  wide = wide-part I used (f .this) ready (a .width) noRow (f .this .free) (λ r m. m) (ready .holds .free-order) used (ready .short)
-
-  tried-says : table.tried I used a (held-rows held) at (shelf .says p (f .this) n) ≡ held-rows (rule.tried a held f)
+  tried-says : table.tried I used a (held-rows held) (f .this .row) (shelf .says p (f .this) n) ≡ held-rows (rule.tried a held f)
   unfolding table.tried rule.tried
   tried-says =
       rw (wide, bad-says a p n (f .this), found-some (a .width) (f .this .items) (f .this .free) (λ r m. ready .listed r m .1))
       (held-found (rule.firstWide (a .width) (f .this .items) (f .this .free)) (rule.isBadFit a (f .this)) held f)
 
-  pub looked-says : table.looked I used a (held-rows held) at (shelf .says p (f .this) n) ≡ held-rows (rule.looked a held f)
+  pub looked-says : table.looked I used a (held-rows held) (f .this .row) (shelf .says p (f .this) n) ≡ held-rows (rule.looked a held f)
   unfolding table.looked rule.looked table.skipped
   looked-says =
       rw (tried-says, passed-says a held p n (f .this), bad-says a p n (f .this), any-says held)
@@ -147,22 +130,17 @@ module _ (I : List ℕ) (used : ℕ) (a : Asked) (held : rule.Held) (f : Focus S
 
 module _ (S I : List ℕ) (used : ℕ) (a : Asked) where
   -- from a place in the chain on
-  pub walk-says : (held : rule.Held) (before after : List Shelf) (p : ℕ) → Each (Ready I used) after → ((r : ℕ) → r ∈ rowsOf shelf after → r ≢ noRow)
-      → Chain shelf (get shelves S) p after → (steps : ℕ) → length after ≤ steps
-      → table.walk S I used a (held-rows held) (record { 0 = firstRow (shelf .row) after }) steps ≡ held-rows (rule.walk a held before after)
+  pub walk-says : (held : rule.Held) (before after : List Shelf) (p : ℕ) → Each (Ready I used) after → Chain shelf (get shelves S) p after
+      → table.walk S I used a (held-rows held) (rowsOf shelf after) ≡ held-rows (rule.walk a held before after)
   unfolding table.walk rule.walk
-  walk-says held before [] p ready some-rows c zero h = refl
-  walk-says held before [] p ready some-rows c (suc steps) h = refl
-  walk-says held before (s ∷ after) p ready some-rows c zero h = absurd (omega arith)
-  walk-says held before (s ∷ after) p ready some-rows c (suc steps) h =
+  walk-says held before [] p ready c = refl
+  walk-says held before (s ∷ after) p ready c =
       let f : Focus Shelf = record { before = before; this = s; after = after } in
-      let n : ℕ = firstRow (shelf .row) after in
       rw (
-        ne-eqb (s .row) noRow (some-rows (s .row) (List·Memᴰ·head refl)),
         c .0,
-        looked-says I used a held f (ready .0) p n,
+        looked-says I used a held f (ready .0) p (firstRow (shelf .row) after),
         exact-says a (rule.looked a held f),
-        walk-says (rule.looked a held f) (s ∷ before) after (s .row) (ready .1) (λ r m. some-rows r (List·Memᴰ·tail m)) (c .1) steps (omega arith),
+        walk-says (rule.looked a held f) (s ∷ before) after (s .row) (ready .1) (c .1),
       )
       (either (rule.isExact a (rule.looked a held f)) (rule.looked a held f) (rule.walk a (rule.looked a held f) (s ∷ before) after)) where
         either : (b : Bool) (x y : rule.Held) → pick b (held-rows x) (held-rows y) ≡ held-rows (pick b x y)

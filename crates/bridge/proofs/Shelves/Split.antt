@@ -105,7 +105,7 @@ module _ (st : State) (a : Atlas) (bs : List Shelf) (s : Shelf) (ys : List Shelf
   new-row-is : newShelf h ≡ onRow new-row
   new-row-is = new-shelf st a stands shelf-left item-left
 
-  shelf-added : splitShelfTable h S (onRow (s .row)) d ≡ S′
+  shelf-added : splitShelfTable h S (onRow (s .row)) (get shelves S (s .row)) d ≡ S′
   unfolding splitShelfTable addShelf
   shelf-added = rw (new-row-is, new-item st a stands shelf-left item-left, ap (λ (q : ShelfRow). q .next) said)
 
@@ -119,7 +119,7 @@ module _ (st : State) (a : Atlas) (bs : List Shelf) (s : Shelf) (ys : List Shelf
       added : ItemRow → List ℕ
       added v = put items I new-item-row (withGeneration (newGeneration item-pool) v)
 
-  split-is : splitShelf st (onRow (s .row)) d ≡ state h′ S′ I′
+  split-is : splitShelf st (onRow (s .row)) (get shelves S (s .row)) d ≡ state h′ S′ I′
   unfolding splitShelf
   split-is = cc (both-taken st a stands shelf-left item-left, shelf-added, lone-added)
 
@@ -299,6 +299,6 @@ module _ (st : State) (a : Atlas) (bs : List Shelf) (s : Shelf) (ys : List Shelf
       past-put items _ (past-same items _ I) new-item-row _
       (new-item-rows .serving-used new-item-row (in-onto (λ (q : Shelf). itemRows (q .items)) new-item-row bs (upper ∷ lower ∷ ys) (inr (Memᴰ·append-right (itemRows (s .items)) (List·Memᴰ·head refl)))))
 
-  pub split-leads : Leads st (splitShelf st (onRow (s .row)) d)
+  pub split-leads : Leads st (splitShelf st (onRow (s .row)) (get shelves S (s .row)) d)
       (record { limits = a .limits; shelves = backOnto bs (upperPart d s ∷ lowerPart (a .limits) (a .rows) d s ∷ ys); rows = itemTaken (shelfTaken (a .rows)) })
   split-leads = rw (split-is, parts-are) (record { stands = record { stored = new-lies; sound = new-sound }; shelves-past = shelves-stay; items-past = items-stay })

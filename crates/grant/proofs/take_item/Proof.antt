@@ -1,22 +1,21 @@
 use Rattle.numbers.specs.Library.{needs}
-use Rattle.grant.specs.Grant.{takeItem}
+use denote.Ref.{now}
+use Rattle.shelf_edits.specs.State.{state}
+use Rattle.grant.specs.Grant.{takes-part, takes-whole}
 use Rattle.grant.proofs.take_item.Statement.{statement}
 use Rattle.grant.proofs.take_item.Tie as tie
 
 pub take-item-spec : {M : Type 1} → statement M
-unfolding takeItem
 take-item-spec =
     tie.close
     (tie.spec
     (λ c κs. search needs)
-    (λ c κs. search needs)
-    (λ c κs. search needs)
     (λ c. search needs)
     (λ c. search needs)
-    (λ c. let r = c .before .before .before .before in let b = r .before .before .before in let t = b .before in let g = t .before in
-    rw (← (g .get-item .ensures), ← (t .splits-item .ensures), b .if1 .taken) (r .take-part .ensures))
+    (λ c. let taken = c .before .before .before .before in let test = taken .before .before .before in let a = test .before .before .before .args in
+    rw (takes-part (state (a .h) (now (a .shelves)) (now (a .items))) (a .p) (test .if1 .taken)) (taken .take-part .ensures))
     (λ c κs. search needs)
     (λ c. search needs)
     (λ c. search needs)
-    (λ c. let r = c .before .before .before .before in let b = r .before .before .before in let t = b .before in let g = t .before in
-    rw (← (g .get-item .ensures), ← (t .splits-item .ensures), b .if1 .left) (r .take-whole .ensures)))
+    (λ c. let taken = c .before .before .before .before in let test = taken .before .before .before in let a = test .before .before .before .args in
+    rw (takes-whole (state (a .h) (now (a .shelves)) (now (a .items))) (a .p) (test .if1 .left)) (taken .take-whole .ensures)))

@@ -1,4 +1,5 @@
-use Rattle.numbers.specs.Library.{needs, refl}
+use Rattle.numbers.specs.Library.{needs, refl, inl}
+use Rattle.item_edits.specs.ItemEdits.{rows-unlistRow}
 use Rattle.grant.specs.Grant.{takeWholeItems, takeWhole}
 use Rattle.grant.proofs.take_whole.Statement.{statement}
 use Rattle.grant.proofs.take_whole.Tie as tie
@@ -8,15 +9,16 @@ unfolding takeWhole takeWholeItems
 take-whole-spec =
     tie.close
     (tie.spec
-    (λ c κs. search needs)
-    (λ c κs. search needs)
-    (λ c κs. search needs)
-    (λ c κs. search needs)
+    (λ c κs. c .before .before .before .before .before .pre .links)
+    (λ c κs. let unlisted = c .before .before .before in rw (unlisted .unlist-row .ensures, rows-unlistRow) (inl (unlisted .before .before .before .before .before .before .pre .item)))
+    (λ c κs. c .before .before .before .before .before .before .before .before .before .before .before .before .before .pre .shelf)
     (λ c. search needs)
     (λ c. search needs)
-    (λ c. let u = c .before .before in let m = u .before .before .before .before in let l = m .before .before .before .before in let g = l .before .before .before in
+    (λ c.
+    let used = c .before .before in
+    let marked = used .before .before .before .before in
     record {
       header = refl;
-      shelves = rw (u .use-shelf .ensures, g .get-item .ensures);
-      items = rw (m .mark-live .ensures, l .unlist .ensures);
+      shelves = used .use-shelf .ensures;
+      items = rw (marked .mark-live .ensures, marked .before .before .before .before .unlist-row .ensures);
     }))

@@ -10,6 +10,5 @@ use-shelf-spec =
     (tie.spec
     (λ c κs. search needs)
     (λ c κs. search needs)
-    (λ c κs. search needs)
     (λ c. search needs)
-    (λ c. rw (c .before .before .set-free .ensures, c .before .before .before .first-after .ensures, c .before .before .before .before .before .before .get-shelf .ensures)))
+    (λ c. rw (c .before .before .set-free .ensures, c .before .before .before .first-after .ensures)))

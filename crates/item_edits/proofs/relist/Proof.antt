@@ -1,4 +1,5 @@
 use Rattle.numbers.specs.Library.{needs}
+use Rattle.rows.specs.Prelude.{rows-change}
 use Rattle.item_edits.specs.ItemEdits.{relist}
 use Rattle.item_edits.proofs.relist.Statement.{statement}
 use Rattle.item_edits.proofs.relist.Tie as tie
@@ -8,13 +9,7 @@ unfolding relist
 relist-spec =
     tie.close
     (tie.spec
-    (λ c κs. search needs)
-    (λ c κs. search needs)
-    (λ c κs. search needs)
-    (λ c κs. search needs)
+    (λ c κs. c .before .before .before .before .pre .prev-free)
+    (λ c κs. let at-next = c .before .before .before in rw (at-next .set-next-unallocated .ensures, rows-change) (at-next .before .before .before .before .before .pre .next-free))
     (λ c. search needs)
-    (λ c.
-    let at-prev = c .before .before in
-    let at-next = at-prev .before .before .before .before in
-    let at-links = at-next .before .before .before .before in
-    rw (at-prev .set-prev-unallocated .ensures, at-next .set-next-unallocated .ensures, at-links .set-links .ensures, at-links .before .before .before .before .get-item .ensures)))
+    (λ c. let at-prev = c .before .before in rw (at-prev .set-prev-unallocated .ensures, at-prev .before .before .before .before .set-next-unallocated .ensures)))

@@ -9,7 +9,6 @@ unlist-spec =
     tie.close
     (tie.spec
     (λ c κs. search needs)
-    (λ c κs. search needs)
-    (λ c κs. search needs)
+    (λ c κs. rw (c .before .linked-item .ensures) (c .before .before .before .before .pre .1))
     (λ c. search needs)
-    (λ c. let p = c .before .before in let n = p .before .before .before .before in rw (p .set-prev-unallocated .ensures, n .set-next-unallocated .ensures, n .before .before .before .before .get-item .ensures)))
+    (λ c. rw (c .before .before .unlist-row .ensures, c .before .before .before .before .linked-item .ensures)))

@@ -9,7 +9,7 @@ empty-flag-spec =
     tie.close
     (tie.spec
     (λ c κs. search needs)
-    (λ c. rw (← (c .before .before .before .get-item .ensures), ne-eqb _ _ (c .if1 .taken)))
+    (λ c. rw (← (c .before .before .before .linked-item .ensures), ne-eqb _ _ (c .if1 .taken)))
     (λ c κs. search needs)
-    (λ c. rw (← (c .before .before .before .before .before .get-item .ensures), eq-eqb _ _ (c .before .before .if1 .left), ← (c .before .is-none .ensures), c .if2 .taken))
-    (λ c. rw (← (c .before .before .before .before .before .get-item .ensures), eq-eqb _ _ (c .before .before .if1 .left), ← (c .before .is-none .ensures), c .if2 .left)))
+    (λ c. rw (← (c .before .before .before .before .before .linked-item .ensures), eq-eqb _ _ (c .before .before .if1 .left), ← (c .before .is-none .ensures), c .if2 .taken))
+    (λ c. rw (← (c .before .before .before .before .before .linked-item .ensures), eq-eqb _ _ (c .before .before .if1 .left), ← (c .before .is-none .ensures), c .if2 .left)))

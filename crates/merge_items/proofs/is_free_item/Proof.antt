@@ -11,4 +11,4 @@ is-free-item-spec =
     (λ c κs. search needs)
     (λ c. rw (← (c .before .is-none .ensures), c .if1 .taken))
     (λ c κs. search needs)
-    (λ c. rw (← (c .before .before .before .is-none .ensures), c .before .before .if1 .left, ← (c .before .get-item .ensures))))
+    (λ c. rw (← (c .before .before .before .is-none .ensures), c .before .before .if1 .left, ← (c .before .linked-item .ensures))))

@@ -1,37 +1,41 @@
--- `first_wide`: a walk along a free list that says at each item what the whole walk says. Assumes nothing.
-use Rattle.numbers.specs.Library.{needs, _≡_, refl, sym, _≤_, arith, le-leb, lt-leb}
-use Rattle.search.specs.Search.{firstWide, wide-none, wide-step}
+-- `first_wide`: the invariant says that what is left of the list finds what the whole list finds, and the measure is its length. Assumes nothing.
+use Rattle.numbers.specs.Library.{refl, length}
+use Rattle.search.proofs.FreeList.{AtItem, listFrom, ended, row-there, wide, past, shorter}
+use Rattle.search.proofs.Tests.{some, none}
 use Rattle.search.proofs.first_wide.Statement.{statement}
 use Rattle.search.proofs.first_wide.Tie as tie
 
--- what is left to do finds what the whole walk finds
 abbrev Inv-loop : tie.InvT-loop
-Inv-loop items width steps at₀ left₀ at left = (left ≤ left₀) × (firstWide items width at₀ left₀ ≡ firstWide items width at left)
+Inv-loop items width at₀ at = AtItem items width (at₀ .0) (at .0)
 
 abbrev μ-loop : tie.MeasureT-loop
-μ-loop items width steps at₀ left₀ at left = left
+μ-loop items width at₀ at = length (listFrom items (at .0))
 
-returns : tie.Need-returns Inv-loop μ-loop
-returns c =
-    let t = c .before .before in
-    rw (t .before .loop .inv .1, wide-step _ _ _ _ (t .loop-test .taken), ← (c .before .is-none .ensures), c .if1 .taken)
+-- `test` is the place after the loop's test, `read` the one after the item is read
 
-returns-2 : tie.Need-returns-2 Inv-loop μ-loop
-returns-2 c =
-    let g = c .before .before in
-    let t = g .before .before .before in
-    rw (t .before .loop .inv .1, wide-step _ _ _ _ (t .loop-test .taken), ← (g .before .before .is-none .ensures), g .before .if1 .left, ← (g .get-item .ensures), le-leb _ _ (c .if2 .taken))
+there : tie.Need-item-there-requires Inv-loop μ-loop
+there c κs = row-there (c .before .before .loop .inv) (some (c .before .is-none .ensures) (c .if1 .taken))
 
-loop-again : tie.Need-loop-again Inv-loop μ-loop
-loop-again c =
-    let g = c .before .before .before in
-    let t = g .before .before .before in
-    (omega arith, rw (t .before .loop .inv .1, wide-step _ _ _ _ (t .loop-test .taken), ← (g .before .before .is-none .ensures), g .before .if1 .left, ← (g .get-item .ensures), lt-leb _ _ (c .before .if2 .left)))
+found : tie.Need-returns Inv-loop μ-loop
+found c =
+    let read = c .before .before in
+    let test = read .before in
+    wide (test .before .before .loop .inv) (some (test .before .is-none .ensures) (test .if1 .taken)) _ (read .item-there .ensures) (c .if2 .taken)
 
-returns-3 : tie.Need-returns-3 Inv-loop μ-loop
-returns-3 c =
-    let e : c .before .loop .left ≡ 0 = omega arith in
-    rw (c .before .loop .inv .1, e) (sym (wide-none _ _ _))
+less : tie.Need-loop-less Inv-loop μ-loop
+less c =
+    let read = c .before .before .before in
+    let test = read .before in
+    shorter (test .before .before .loop .inv) (some (test .before .is-none .ensures) (test .if1 .taken)) _ (read .item-there .ensures)
+
+again : tie.Need-loop-again Inv-loop μ-loop
+again c =
+    let read = c .before .before .before in
+    let test = read .before in
+    past (test .before .before .loop .inv) (some (test .before .is-none .ensures) (test .if1 .taken)) _ (read .item-there .ensures) (c .before .if2 .left)
+
+not-found : tie.Need-returns-2 Inv-loop μ-loop
+not-found c = ended (c .before .before .loop .inv) (none (c .before .is-none .ensures) (c .if1 .left))
 
 pub first-wide-spec : {M : Type 1} → statement M
 first-wide-spec =
@@ -39,12 +43,10 @@ first-wide-spec =
     (tie.spec
     Inv-loop
     μ-loop
-    (λ c. (omega arith, refl))
-    (λ c κs. search needs)
-    returns
-    (λ c κs. search needs)
-    returns-2
-    (λ c. omega arith)
-    (λ c. omega arith)
-    loop-again
-    returns-3)
+    (λ c. record { ends = c .before .pre; same = refl })
+    (λ c κs. tt)
+    there
+    found
+    less
+    again
+    not-found)

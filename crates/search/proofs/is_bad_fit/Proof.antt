@@ -1,4 +1,4 @@
-use Rattle.numbers.specs.Library.{needs, eq-eqb, ne-eqb}
+use Rattle.numbers.specs.Library.{eq-eqb, ne-eqb}
 use Rattle.search.specs.Search.{shelfIsEmpty, isBadFit}
 use Rattle.search.proofs.is_bad_fit.Statement.{statement}
 use Rattle.search.proofs.is_bad_fit.Tie as tie
@@ -9,5 +9,4 @@ is-bad-fit-spec =
     tie.close
     (tie.spec
     (λ c. rw (eq-eqb _ _ (c .if1 .taken)))
-    (λ c κs. search needs)
-    (λ c. rw (ne-eqb _ _ (c .before .before .if1 .left), c .before .good-fit-to .ensures)))
+    (λ c. rw (ne-eqb _ _ (c .before .if1 .left))))

@@ -12,4 +12,4 @@ set-free-spec =
     (λ c κs. search needs)
     (λ c κs. search needs)
     (λ c. search needs)
-    (λ c. rw (c .before .before .put-shelf .ensures, c .before .before .before .before .get-shelf .ensures, change-is)))
+    (λ c. rw (c .before .before .put-shelf-there .ensures, c .before .before .before .before .shelf-there .ensures, change-is)))

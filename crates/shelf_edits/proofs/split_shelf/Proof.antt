@@ -16,12 +16,11 @@ split-shelf-spec =
     (λ c κs. search needs)
     (λ c κs. search needs)
     (λ c κs. search needs)
-    (λ c κs. search needs)
     (λ c. search needs)
     (λ c. search needs)
-    (λ c. let p = c .before .before .before in let s = p .before .before .before .before in let a = s .before .before .before .before in let l = a .before in let d = l .before .before .before .before .before .before in let w = d .before in let n = w .before in let g = n .before .before .before in
+    (λ c. let p = c .before .before .before in let s = p .before .before .before .before in let a = s .before .before .before .before in let l = a .before in let d = l .before .before .before .before .before .before in let w = d .before in let n = w .before in
     record {
       header = rw (a .add-item .ensures .0, d .add-shelf .ensures .0);
-      shelves = rw (p .set-shelf-prev .ensures, s .set-reach .ensures, d .add-shelf .ensures .0, d .add-shelf .ensures .1, w .lower-of .ensures, n .next-item .ensures, g .get-shelf .ensures);
-      items = rw (a .add-item .ensures .1, l .lone-item .ensures, d .add-shelf .ensures .0, g .get-shelf .ensures);
+      shelves = rw (p .set-shelf-prev .ensures, s .set-reach .ensures, d .add-shelf .ensures .0, d .add-shelf .ensures .1, w .lower-of .ensures, n .next-item .ensures);
+      items = rw (a .add-item .ensures .1, l .lone-item .ensures, d .add-shelf .ensures .0);
     }))

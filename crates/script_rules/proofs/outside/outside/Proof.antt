@@ -9,9 +9,5 @@ outside-spec =
     tie.close
     (tie.spec
     (λ c κs. search needs)
-    (λ c κs. search needs)
-    (λ c. search needs)
-    (λ c. let s = c .before .before in let k = s .before .before in outside-3 _ _ _ (k .before .passes .ensures) (k .if1 .taken) (s .say .ensures))
-    (λ c κs. search needs)
-    (λ c. search needs)
-    (λ c. let s = c .before .before in let k = s .before .before in outside-8 _ _ _ (k .before .passes .ensures) (k .if1 .left) (s .say2 .ensures)))
+    (λ c. outside-3 _ _ _ (c .before .passes .ensures) (c .if1 .taken))
+    (λ c. outside-8 _ _ _ (c .before .passes .ensures) (c .if1 .left)))

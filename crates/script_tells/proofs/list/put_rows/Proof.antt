@@ -1,6 +1,6 @@
 -- `put_rows`: the lines of the rows so far are put, and their items counted; a row has one at most, so the count is no more than the rows. Assumes nothing.
 use Rattle.numbers.specs.Library.{_≡_, subst, needs, ℕ, _≤_, _-_, arith}
-use Rattle.live.specs.Live.{rowsListed}
+use Rattle.live_rows.specs.Live.{rowsListed}
 use Rattle.texts.specs.Put.{put-length}
 use Rattle.script_tells.specs.Listing.{Listed, listed-none, listed-then}
 use Rattle.script_tells.proofs.Rows.{row-few, rows-none, rows-more}

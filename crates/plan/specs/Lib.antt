@@ -1,0 +1,2 @@
+pub mod Spare
+pub mod Plan
