@@ -8,7 +8,7 @@ for tool in rt rustc valgrind; do
     command -v $tool >/dev/null || { echo "bench: $tool is not there" >&2; exit 2; }
 done
 cd "$top"
-[ -f target/staticlib/libplytimber.a ] || rt staticlib plytimber >&2
+rt staticlib plytimber >&2
 out=target/bench
 mkdir -p $out/plain $out/checks
 # The Rust as a release build has it. The oracle's own build has overflow checks on, which would count for the Rust.
