@@ -1,10 +1,9 @@
-// The commands that may change the tables: n, a, r and c.
+// The commands that may change the tables: n, a, r and c, each as a call of the rules.
 ghost use Rattle.lines.specs.declared.command.Change.the-variants as change;
 ghost use Rattle.rules.specs.Step as call;
 ghost use Rattle.texts.specs.Answer.{textOf};
 ghost use Rattle.script_rules.specs.Answers.{changeOf};
 ghost use Rattle.script_rules.specs.Step.{Calling};
-use lines::command::Change;
 use lines::command::CreateArgs;
 use rows::header::Header;
 use script_rules::Answered;
@@ -15,7 +14,7 @@ use script_rules::ids::Id;
 use script_rules::ids::id_of;
 use script_rules::outside::outside;
 
-fn on_create(h: Header, shelves: &mut [u16], items: &mut [u16], args: CreateArgs) -> Answered
+pub fn on_create(h: Header, shelves: &mut [u16], items: &mut [u16], args: CreateArgs) -> Answered
     ensures { λ r. ⌜ Calling h (now (shelves .entry)) (now (items .entry)) (changeOf (change.Create args)) (r .header) (now (shelves .exit)) (now (items .exit)) (textOf (r .answer)) ⌝ }
 {
     let made = create::create(
@@ -36,7 +35,7 @@ fn on_create(h: Header, shelves: &mut [u16], items: &mut [u16], args: CreateArgs
     }
 }
 
-fn on_ask(h: Header, shelves: &mut [u16], items: &mut [u16], w: i32, height: i32) -> Answered
+pub fn on_ask(h: Header, shelves: &mut [u16], items: &mut [u16], w: i32, height: i32) -> Answered
     ensures { λ r. ⌜ Calling h (now (shelves .entry)) (now (items .entry)) (changeOf (change.Ask w height)) (r .header) (now (shelves .exit)) (now (items .exit)) (textOf (r .answer)) ⌝ }
 {
     let allocated = allocate::allocate(h, shelves, items, w, height);
@@ -66,7 +65,7 @@ fn release_id(
     }
 }
 
-fn on_release(
+pub fn on_release(
     h: Header,
     shelves: &mut [u16],
     items: &mut [u16],
@@ -89,7 +88,7 @@ fn on_release(
     }
 }
 
-fn on_clear(h: Header, shelves: &mut [u16], items: &mut [u16]) -> Answered
+pub fn on_clear(h: Header, shelves: &mut [u16], items: &mut [u16]) -> Answered
     ensures { λ r. ⌜ Calling h (now (shelves .entry)) (now (items .entry)) (changeOf change.Clear) (r .header) (now (shelves .exit)) (now (items .exit)) (textOf (r .answer)) ⌝ }
 {
     let cleared = create::clear(h, shelves, items);
@@ -98,24 +97,5 @@ fn on_clear(h: Header, shelves: &mut [u16], items: &mut [u16]) -> Answered
     Answered {
         header,
         answer: of_reply(answer),
-    }
-}
-
-pub fn change(h: Header, shelves: &mut [u16], items: &mut [u16], asked: Change) -> Answered
-    ensures { λ r. ⌜ Calling h (now (shelves .entry)) (now (items .entry)) (changeOf asked) (r .header) (now (shelves .exit)) (now (items .exit)) (textOf (r .answer)) ⌝ }
-{
-    match asked {
-        Change::Create(args) => {
-            return on_create(h, shelves, items, args);
-        }
-        Change::Ask(w, height) => {
-            return on_ask(h, shelves, items, w, height);
-        }
-        Change::Release(row, generation) => {
-            return on_release(h, shelves, items, row, generation);
-        }
-        Change::Clear => {
-            return on_clear(h, shelves, items);
-        }
     }
 }

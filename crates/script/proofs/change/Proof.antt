@@ -2,8 +2,8 @@
 use Rattle.numbers.specs.Library.{ap, w32, SFits, toZ-ofZ, needs}
 use Rattle.script_rules.specs.Answers.{changeOf}
 use Rattle.script_rules.proofs.Told.{as-called}
-use Rattle.script_calls.proofs.change.Statement.{statement}
-use Rattle.script_calls.proofs.change.Tie as tie
+use Rattle.script.proofs.change.Statement.{statement}
+use Rattle.script.proofs.change.Tie as tie
 
 returns : tie.Need-returns
 returns c = as-called _ _ _ _ _ _ _ (ap changeOf (c .before .before .before .before .before .before .before .before .asked .given .1)) (c .before .before .before .before .on-create .ensures)
