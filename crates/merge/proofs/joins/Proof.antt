@@ -12,5 +12,5 @@ joins-spec =
     (λ c κs. search needs)
     (λ c κs. search needs)
     (λ c. rw (← (c .before .before .before .get-shelf .ensures), ne-eqb _ _ (c .if1 .taken)))
-    (λ c. rw (← (c .before .before .before .before .before .get-shelf .ensures), eq-eqb _ _ (c .before .before .if1 .left), ← (c .before .before .before .before .get-shelf2 .ensures), ne-eqb _ _ (c .if2 .taken)))
-    (λ c. rw (← (c .before .before .before .before .before .before .before .get-shelf .ensures), eq-eqb _ _ (c .before .before .before .before .if1 .left), ← (c .before .before .before .before .before .before .get-shelf2 .ensures), eq-eqb _ _ (c .before .before .if2 .left))))
+    (λ c. let read = c .before .before .before .before in rw (← (read .before .get-shelf .ensures), eq-eqb _ _ (c .before .before .if1 .left), ← (read .get-shelf2 .ensures), ne-eqb _ _ (c .if2 .taken)))
+    (λ c. let read = c .before .before .before .before .before .before in rw (← (read .before .get-shelf .ensures), eq-eqb _ _ (c .before .before .before .before .if1 .left), ← (read .get-shelf2 .ensures), eq-eqb _ _ (c .before .before .if2 .left))))

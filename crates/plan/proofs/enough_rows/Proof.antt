@@ -1,3 +1,4 @@
+-- `enough_rows`: shelf rows are judged first; the item rows that both splits need are then at most the unused ones, or at most those and the freed. Assumes nothing.
 use Rattle.numbers.specs.Library.{needs, arith, _+_, _≡_, le-leb, not-true, not-false}
 use denote.Ref.{now}
 use Rattle.plan.specs.Spare.{count, enoughRows, spareItems, freedItems, few-splits, few-items}

@@ -6,26 +6,32 @@ use Rattle.script.proofs.change.Statement.{statement}
 use Rattle.script.proofs.change.Tie as tie
 
 returns : tie.Need-returns
-returns c = as-called _ _ _ _ _ _ _ (ap changeOf (c .before .before .before .before .before .before .before .before .asked .given .1)) (c .before .before .before .before .on-create .ensures)
+returns c =
+    let called = c .before .before .before .before in
+    as-called _ _ _ _ _ _ _ (ap changeOf (called .before .before .before .before .asked .given .1)) (called .on-create .ensures)
 
 returns-2 : tie.Need-returns-2
 returns-2 c =
-    let t = c .before .before .before .before .before .before .before .known-told2 .given in
-    let g = c .before .before .before .before .before .before .before .before .asked2 .given in
+    let called = c .before .before .before .before in
+    let t = called .before .before .before .known-told2 .given in
+    let g = called .before .before .before .before .asked2 .given in
     let x : SFits w32 (g .0 .0) = record { sfits = t .0 .1 } in
     let y : SFits w32 (g .0 .1 .0) = record { sfits = t .1 .0 .1 } in
-    as-called _ _ _ _ _ _ _ (ap changeOf (g .1)) (simp (toZ-ofZ x, toZ-ofZ y) at (c .before .before .before .before .on-ask .ensures))
+    as-called _ _ _ _ _ _ _ (ap changeOf (g .1)) (simp (toZ-ofZ x, toZ-ofZ y) at (called .on-ask .ensures))
 
 returns-3 : tie.Need-returns-3
 returns-3 c =
-    let t = c .before .before .before .before .before .before .before .known-told3 .given in
-    let g = c .before .before .before .before .before .before .before .before .asked3 .given in
+    let called = c .before .before .before .before in
+    let t = called .before .before .before .known-told3 .given in
+    let g = called .before .before .before .before .asked3 .given in
     let x : SFits w32 (g .0 .0) = record { sfits = t .0 .1 } in
     let y : SFits w32 (g .0 .1 .0) = record { sfits = t .1 .0 .1 } in
-    as-called _ _ _ _ _ _ _ (ap changeOf (g .1)) (simp (toZ-ofZ x, toZ-ofZ y) at (c .before .before .before .before .on-release .ensures))
+    as-called _ _ _ _ _ _ _ (ap changeOf (g .1)) (simp (toZ-ofZ x, toZ-ofZ y) at (called .on-release .ensures))
 
 returns-4 : tie.Need-returns-4
-returns-4 c = as-called _ _ _ _ _ _ _ (ap changeOf (c .before .before .before .before .before .before .before .enum-told .given .1)) (c .before .before .before .before .on-clear .ensures)
+returns-4 c =
+    let called = c .before .before .before .before in
+    as-called _ _ _ _ _ _ _ (ap changeOf (called .before .before .before .enum-told .given .1)) (called .on-clear .ensures)
 
 pub change-spec : {M : Type 1} → statement M
 change-spec =

@@ -7,17 +7,21 @@ use Rattle.script.proofs.step.Tie as tie
 
 returns : tie.Need-returns
 returns c =
-    as-read _ _ _ (sym (c .before .before .before .before .before .before .read-line .ensures) ∙ c .before .before .before .before .enum-told .given .1) (said (unreadable _ _ _) (c .before .before .say .ensures))
+    let bad = c .before .before .before .before in
+    as-read _ _ _ (sym (bad .before .before .read-line .ensures) ∙ bad .enum-told .given .1) (said (unreadable _ _ _) (c .before .before .say .ensures))
 
 returns-2 : tie.Need-returns-2
 unfolding Doing
 returns-2 c =
-    as-read _ _ _ (sym (c .before .before .before .before .before .before .before .before .before .read-line .ensures) ∙ c .before .before .before .before .before .before .before .command .given .1) (c .before .before .tell .ensures)
+    let to-tell = c .before .before .before .before .before .before .before in
+    as-read _ _ _ (sym (to-tell .before .before .read-line .ensures) ∙ to-tell .command .given .1) (c .before .before .tell .ensures)
 
 returns-3 : tie.Need-returns-3
 unfolding Doing
 returns-3 c =
-    as-read _ _ _ (sym (c .before .before .before .before .before .before .before .before .before .before .before .before .before .before .before .read-line .ensures) ∙ c .before .before .before .before .before .before .before .before .before .before .before .before .before .command2 .given .1) (said (c .before .before .before .before .before .before .before .before .before .change .ensures) (c .before .before .say2 .ensures))
+    let changed = c .before .before .before .before .before .before .before .before .before in
+    let to-change = changed .before .before .before .before in
+    as-read _ _ _ (sym (to-change .before .before .read-line .ensures) ∙ to-change .command2 .given .1) (said (changed .change .ensures) (c .before .before .say2 .ensures))
 
 pub step-spec : {M : Type 1} → statement M
 step-spec =
