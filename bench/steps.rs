@@ -130,6 +130,7 @@ impl Both {
             }
             None => assert_eq!(ours.answer, 6, "refused"),
         }
+        assert_eq!(self.header.occupied as i32, self.rust.allocated_space(), "occupied");
     }
 
     fn release(&mut self, at: usize) {
@@ -156,16 +157,14 @@ impl Both {
         let count = rust_list(&self.rust, &mut self.listed);
         let ours = unsafe { bench_list(self.header, self.shelves.as_ptr(), self.shelves.len(), self.items.as_ptr(), self.items.len(), self.out.as_mut_ptr(), self.out.len()) };
         assert_eq!((ours.answer, ours.count as usize), (0, count), "as many");
-        let mut told: Vec<[i32; 6]> = self.out[..6 * count].chunks(6).map(|r| [0, 1, 2, 3, 4, 5].map(|k| r[k] as i32)).collect();
-        let mut asked: Vec<[i32; 6]> = self.listed[..count]
+        let told: Vec<[i32; 6]> = self.out[..6 * count].chunks(6).map(|r| [0, 1, 2, 3, 4, 5].map(|k| r[k] as i32)).collect();
+        let asked: Vec<[i32; 6]> = self.listed[..count]
             .iter()
             .map(|&(id, r)| {
                 let c = corners(r);
                 [row_of(id).0 as i32, row_of(id).1 as i32, c[0], c[1], c[2], c[3]]
             })
             .collect();
-        told.sort();
-        asked.sort();
         assert_eq!(told, asked, "listed");
     }
 }
@@ -177,7 +176,8 @@ fn main() {
         "labels" => (Both::new(2048, (1, 1), 1), (8, 40), 2000),
         _ => panic!("churn or labels"),
     };
-    let mut random = atlas::Random(0x9e3779b97f4a7c15);
+    let seed = std::env::args().nth(2).map_or(0x9e3779b97f4a7c15, |n| n.parse().expect("a seed"));
+    let mut random = atlas::Random(seed);
     let mut side = |random: &mut atlas::Random| sides.0 + random.below((sides.1 - sides.0 + 1) as u64) as i32;
     for turn in 0..6000 {
         if both.live.len() < live || random.below(2) == 0 {

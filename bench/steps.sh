@@ -1,7 +1,8 @@
 #!/bin/sh
 # Instructions of allocate, release, look-up and list, each without its audit, and of the Rust's, in one run of one driver that gives both the same
 # requests and compares the answers. Two loads: churn (2048 x 2048, alignments 4 x 8, two columns, sides 8 to 120, about 300 live items granted and released)
-# and labels (alignment 1, one column, sides 8 to 40, 2,000 live). Needs rt, rustc, valgrind and awk; builds into target/bench.
+# and labels (alignment 1, one column, sides 8 to 40, 2,000 live). SEED=N gives other requests of the same kind. Needs rt, rustc, valgrind and awk; builds
+# into target/bench.
 set -eu
 here=$(cd "$(dirname "$0")" && pwd)
 top=$(cd "$here/.." && pwd)
@@ -19,8 +20,8 @@ given --crate-name svg_fmt --out-dir $out oracle/shims/svg_fmt.rs
 given --crate-name etagere --extern euclid=$out/libeuclid.rlib --extern svg_fmt=$out/libsvg_fmt.rlib --out-dir $out/plain oracle/etagere/src/lib.rs
 rustc --edition 2021 --cap-lints allow -O -L $out -L $out/plain --extern etagere=$out/plain/libetagere.rlib -L target/staticlib -l static=bench_calls -o $out/steps.bin bench/steps.rs
 for load in ${*:-churn labels}; do
-    calls=$("$out/steps.bin" "$load")
-    valgrind --tool=callgrind --callgrind-out-file=$out/steps.$load "$out/steps.bin" "$load" >/dev/null 2>&1
+    calls=$("$out/steps.bin" "$load" ${SEED:-})
+    valgrind --tool=callgrind --callgrind-out-file=$out/steps.$load "$out/steps.bin" "$load" ${SEED:-} >/dev/null 2>&1
     callgrind_annotate --inclusive=yes --threshold=100 $out/steps.$load | tr -d , | awk -v load="$load" -v calls="$calls" '
         BEGIN { split("allocate release look_up list", name); split(calls, count) }
         { for (k in name) {
