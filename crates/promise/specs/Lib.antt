@@ -1,0 +1,3 @@
+pub mod Run
+pub mod Facts
+pub mod Demand3
