@@ -1,6 +1,5 @@
-pub mod ByRow
 pub mod Refusals
 pub mod Steps
-pub mod RawSides
 pub mod OneStep
 pub mod OverRuns
+pub mod ShutOut

@@ -1,25 +1,22 @@
 -- One call on a header and tables that pass: each of demand 3's facts for it. Assumes nothing.
-use Rattle.numbers.specs.Library.{ℕ, zero, suc, _+_, _≤_, _<_, _≡_, refl, sym, ap, _∙_, _≢_, subst, Bool, true, false, _&&_, Option, none, some, List, [], _∷_, _++_, ℤ, arith, eqb}
-use Rattle.numbers.specs.Prelude.{pick, columns, asked}
-use Rattle.numbers.specs.declared.{limits.Limits.Limits, request.Asked.Asked, request.Request.Request}
+use Rattle.numbers.specs.Library.{ℕ, _≡_, refl, sym, ap, _∙_, _≢_, subst, Option, none, some, [], ℤ, arith}
+use Rattle.numbers.specs.Prelude.{asked}
+use Rattle.numbers.specs.declared.{request.Asked.Asked, request.Request.Request}
 use Rattle.numbers.specs.declared.request.Request.the-variants.{Good, Refused}
 use Rattle.rows.specs.declared.live.Live.{Live}
 use Rattle.shelf_edits.specs.State.{State}
-use Rattle.chains.specs.Prelude.{_iff_, Each}
-use Rattle.rules.specs.Prelude.{Atlas, Room, atlasIn, Outcome, refused, gives, Given, allocate, release, lookUp, list, liveOf, grant, freshShelf, freshShelves, fresh, clear, Found, findLive, releaseFound, WellFormed}
-use Rattle.laws.specs.Lives.{flat, livesOn, lives, OneMore}
+use Rattle.chains.specs.Prelude.{_iff_}
+use Rattle.rules.specs.Prelude.{Atlas, Room, atlasIn, Outcome, refused, gives, Given, allocate, release, lookUp, liveOf, grant, fresh, clear, Found, findLive, releaseFound, WellFormed}
+use Rattle.laws.specs.Lives.{OneMore}
 use Rattle.laws.proofs.Stored.Reading.{formed}
-use Rattle.laws.proofs.Shape.Granting.{Grants, granted-so, place-so, grant-so}
-use Rattle.laws.proofs.Shape.Kept.{grant-lives, grant-covers, release-lives, answers-6}
+use Rattle.laws.proofs.Shape.Kept.{fresh-lists-none, answers-6, answers-7, grant-limits, release-limits, grant-covers, covers-raw, grant-lives, release-lives, list-one-more}
 use Rattle.promises.specs.Prelude.{grants, replies, listings, Allocates, Releases, Lists}
 use Rattle.promises.specs.declared.{answers.Grant.Grant, answers.Reply.Reply, answers.Listing.Listing}
 use Rattle.promises.specs.declared.answers.Grant.the-variants as grant-answer
 use Rattle.promises.specs.declared.answers.Reply.the-variants as reply
 use Rattle.promise.specs.Run.{Did, allocated, released, lookedUp, listed, cleared, answered}
-use Rattle.promise.specs.Facts.{Pass, atlas, room, live, TakesOne, Changes, Covers, NoPlaceExactly, TooFewExactly, ListsLive}
-use Rattle.promise.proofs.ByRow.{below, nothing-below, list-below, list-one-more}
-use Rattle.promise.proofs.Refusals.{answers-7, allocate-not-3}
-use Rattle.promise.proofs.RawSides.{covers-raw}
+use Rattle.promise.specs.Facts.{Pass, atlas, room, live, TakesOne, Changes, Covers, JudgedFirst, NoPlaceExactly, TooFewExactly, ListsLive}
+use Rattle.promise.proofs.Refusals.{allocate-not-3}
 use Rattle.promise.proofs.Steps.{Left, Allocating, grants-it, refuses-it, allocating, Releasing, releases-it, keeps-it, releasing, Clearing, clears-it, clearing, Looking, finds-it, finds-none}
 use Rattle.promise.proofs.Steps.{looking, Telling, tells-all, too-short, telling}
 
@@ -47,29 +44,6 @@ released-found a row generation a′ = go (findLive a row generation) refl where
       → (w : Found) × (findLive a row generation ≡ some w) × (releaseFound a w ≡ a′)
   go (some w) e k = (w, e, cc)
   go none e k = absurd (let z : _≡_ {A = ℕ} 0 1 = cc in omega arith)
-
-grant-limits : (room : Room) (a : Atlas) → WellFormed room a → (q : Asked) (v : Live) (a′ : Atlas) → grant room a q ≡ gives (record { told = v; atlas = a′ }) → a′ .limits ≡ a .limits
-grant-limits room a formed q v a′ e =
-    let Kept : Live → Atlas → Type 0 = λ v a′. a′ .limits ≡ a .limits in
-    granted-so Kept (grant room a q) v a′
-    (grant-so room a (formed .sound) q (Grants Kept) (λ e. tt) tt
-    (λ f w c e. place-so a q (Grants Kept) _ w _ _ (λ e. refl) (λ e. refl)) (λ f w c e. place-so a q (Grants Kept) f w (f .after) (a .rows) (λ e. refl) (λ e. refl))) e
-
-release-limits : (a : Atlas) (w : Found) → releaseFound a w .limits ≡ a .limits
-unfolding releaseFound
-release-limits a w = refl
-
--- a fresh atlas has no live item
-fresh-none : (l : Limits) (k n : ℕ) → flat (livesOn l) (freshShelves l k n) ≡ []
-unfolding freshShelves freshShelf
-fresh-none l k zero = refl
-fresh-none l k (suc n) = fresh-none l (suc k) n
-
-pub clear-lives-none : (room : Room) (a : Atlas) → WellFormed room (clear a) → list (clear a) ≡ []
-unfolding clear fresh columns
-clear-lives-none room a formed =
-    let used : ℕ = columns (a .limits) in
-    list-below room (clear a) formed used (omega arith) ∙ ap (λ (ls : List Live). below ls used) (fresh-none (a .limits) 0 used) ∙ nothing-below used
 
 -- ---- what each call leaves
 
@@ -104,7 +78,7 @@ module _ (st st′ : State) where
       go : {answer : Grant} → Allocating st st′ w height answer → st′ .header .limits ≡ st .header .limits
       go (grants-it v a′ e left) =
           let (q, good, granted) = granted-asked (room st) (atlas st) w height (record { told = v; atlas = a′ }) e in
-          ap (λ (a : Atlas). a .limits) (left .atlas-is) ∙ grant-limits (room st) (atlas st) (well-formed pass) q v a′ granted
+          ap (λ (a : Atlas). a .limits) (left .atlas-is) ∙ grant-limits (room st) (atlas st) q v a′ (well-formed pass) granted
       go (refuses-it n e same) = ap (λ (s : State). s .header .limits) same
     limits-next (released row generation answer p) = go (releasing st st′ pass row generation answer p) where
       go : {answer : Reply} → Releasing st st′ row generation answer → st′ .header .limits ≡ st .header .limits
@@ -137,6 +111,7 @@ module _ (st st′ : State) where
         }
 
     pub changes : (did : Did st st′) → Changes did
+    unfolding clear fresh
     changes (allocated w height answer p) = go (allocating st st′ pass w height answer p) p where
       go : {answer : Grant} → Allocating st st′ w height answer
           → (p : Allocates (st .header) (st .shelves) (st .items) w height (record { answer = answer; header = st′ .header }) (st′ .shelves) (st′ .items)) → Changes (allocated w height answer p)
@@ -151,7 +126,7 @@ module _ (st st′ : State) where
     changes (listed out answer out′ p same) = ap live same
     changes (cleared answer p) = go (clearing st st′ pass answer p) where
       go : {answer : Reply} → Clearing st st′ answer → (answer ≡ reply.Done) × (live st′ ≡ [])
-      go (clears-it left) = (refl, rw (left .atlas-is) (clear-lives-none (room st′) (atlas st) (left-formed left)))
+      go (clears-it left) = (refl, rw (left .atlas-is) (fresh-lists-none (room st′) (atlas st .limits) (left-formed left)))
 
     -- "a grant covers the sides asked for"
     pub covers : (did : Did st st′) → Covers did
@@ -184,6 +159,14 @@ module _ (st st′ : State) where
         let on : allocate (room st) (atlas st) w height ≡ grant (room st) (atlas st) q = passes-on (room st) (atlas st) w height q good in
         ((λ is. to (sym on ∙ as-rules is)), (λ when. back (on ∙ from when)))
 
+    pub judged-first : (did : Did st st′) → JudgedFirst did
+    unfolding atlasIn allocate
+    judged-first (allocated w height answer p) = λ n e. answer-is w height answer n (allocating st st′ pass w height answer p) .1 (rw (e, allocate))
+    judged-first (released row generation answer p) = tt
+    judged-first (lookedUp row generation answer p same) = tt
+    judged-first (listed out answer out′ p same) = tt
+    judged-first (cleared answer p) = tt
+
     pub no-place-exactly : (did : Did st st′) → NoPlaceExactly did
     no-place-exactly (allocated w height answer p) = λ q good.
         exactly w height answer 6 q _ (allocating st st′ pass w height answer p) good (answers-6 (room st) (atlas st) q (well-formed pass))
@@ -194,7 +177,7 @@ module _ (st st′ : State) where
 
     pub too-few-exactly : (did : Did st st′) → TooFewExactly did
     too-few-exactly (allocated w height answer p) = λ q good.
-        exactly w height answer 7 q _ (allocating st st′ pass w height answer p) good (answers-7 (room st) (atlas st) (well-formed pass) q)
+        exactly w height answer 7 q _ (allocating st st′ pass w height answer p) good (answers-7 (room st) (atlas st) q (well-formed pass))
     too-few-exactly (released row generation answer p) = tt
     too-few-exactly (lookedUp row generation answer p same) = tt
     too-few-exactly (listed out answer out′ p same) = tt

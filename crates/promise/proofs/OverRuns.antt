@@ -1,28 +1,25 @@
 -- Demand 3, from one call to any run of them. Assumes nothing.
-use Rattle.numbers.specs.Library.{ℕ, _+_, _*_, _≤_, _<_, _≡_, refl, sym, ap, _∙_, _≢_, subst, Bool, true, false, _&&_, List, [], _∷_, _++_, ℤ, arith, eqb, eq-eqb, ne-eqb}
-use Rattle.numbers.specs.Prelude.{pick, pick-yes, firstAxis, secondAxis, spaceLeft}
+use Rattle.numbers.specs.Library.{ℕ, _+_, _*_, _<_, _≡_, refl, sym, ap, _∙_, List, [], _∷_, _++_, arith, eq-eqb, ne-eqb}
+use Rattle.numbers.specs.Prelude.{spaceLeft}
 use Rattle.numbers.specs.declared.limits.Limits.{Limits}
 use Rattle.rows.specs.declared.live.Live.{Live}
 use Rattle.shelf_edits.specs.State.{State}
 use Rattle.chains.specs.Prelude.{Each}
 use Rattle.chains.proofs.Prelude.{each-map}
-use Rattle.rules.specs.Prelude.{Atlas, Room, atlasIn, Outcome, refused, gives, Given, allocate, release, freeSpace, sizeX, sizeY, grant, releaseFound, clear, fresh, WellFormed}
-use Rattle.laws.specs.Lives.{lives, OneMore, HasPixel, NoPixelShared, Pairs, Inside, area, areas}
+use Rattle.rules.specs.Prelude.{release, freeSpace, sizeX, sizeY, WellFormed}
+use Rattle.laws.specs.Lives.{lives, OneMore, Pairs, Inside, area, areas}
 use Rattle.laws.proofs.Stored.Reading.{formed}
 use Rattle.laws.proofs.Shape.Flat.{Across}
-use Rattle.laws.proofs.Shape.Granting.{place-so, grant-so}
 use Rattle.laws.proofs.Shape.Rectangles.{one-more-area}
-use Rattle.laws.proofs.Shape.Kept.{lives-inside, occupied-lives}
+use Rattle.laws.proofs.Shape.Kept.{lives-inside, list-rises, list-each, list-apart, list-areas, occupied-lives}
 use Rattle.bridge.proofs.Calls as calls
-use Rattle.promises.specs.Prelude.{Allocates, Releases}
-use Rattle.promises.specs.declared.{answers.Grant.Grant, answers.Reply.Reply}
 use Rattle.promises.specs.declared.answers.Grant.the-variants as grant-answer
 use Rattle.promises.specs.declared.answers.Reply.the-variants as reply
 use Rattle.promise.specs.Run.{Did, allocated, released, lookedUp, listed, cleared, Run, start, then}
-use Rattle.promise.specs.Facts.{Pass, atlas, room, live, LiesIn, SameId, NoneMoved, TakesOne, Changes, areaOf, Count, countedAfter, countOf}
+use Rattle.promise.specs.Facts.{Pass, atlas, room, live, LiesIn, SameId, NoneMoved, Changes, areaOf, Count, countedAfter, countOf}
 use Rattle.promise.specs.Demand3.{Demand3}
-use Rattle.promise.proofs.ByRow.{Rising, pairs-across, each-there, list-rises, list-each, list-apart, list-areas}
-use Rattle.promise.proofs.OneStep.{pass-next, limits-next, changes, covers, no-place-exactly, too-few-exactly, lists-live, no-3, refusal-keeps}
+use Rattle.laws.proofs.Shape.ByRow.{Rising, pairs-across, each-there}
+use Rattle.promise.proofs.OneStep.{pass-next, limits-next, changes, covers, judged-first, no-place-exactly, too-few-exactly, lists-live, no-3, refusal-keeps}
 
 -- ---- a state that passes
 
@@ -133,6 +130,7 @@ module _ (st : State) (pass : Pass st) where
     no-call-moves-one = λ now next run did. none-moved now next (pass-now run) (pass-next now next (pass-now run) did) did (changes now next (pass-now run) did);
     one-granted-or-released = λ now next run did. changes now next (pass-now run) did;
     grant-covers-the-sides = λ now next run did. covers now next (pass-now run) did;
+    checks-4-and-5-first = λ now next run did. judged-first now next (pass-now run) did;
     no-place-exactly = λ now next run did. no-place-exactly now next (pass-now run) did;
     too-few-rows-exactly = λ now next run did. too-few-exactly now next (pass-now run) did;
     no-call-answers-3 = λ now next run did. no-3 now next (pass-now run) did;

@@ -1,12 +1,11 @@
 -- What each call comes to on tables that pass, taken from its promise: the outcome of the rules' own call, with the atlas that it leaves. Assumes nothing.
-use Rattle.numbers.specs.Library.{ℕ, _≡_, refl, sym, subst, ap, _∙_, Bool, true, false, some, List, [], _∷_, ℤ, length, arith, ltb}
+use Rattle.numbers.specs.Library.{ℕ, _≡_, refl, sym, subst, ap, _∙_, Bool, true, false, some, List, ℤ, length, arith, ltb}
 use Rattle.numbers.specs.Prelude.{pick}
 use Rattle.rows.specs.Prelude.{rows}
 use Rattle.rows.specs.declared.live.Live.{Live}
-use Rattle.rows.specs.declared.header.Header.{Header}
 use Rattle.shelf_edits.specs.State.{State}
-use Rattle.rules.specs.Prelude.{Atlas, Outcome, refused, gives, mapped, Given, Call, Allocate, Release, LookUp, ListIn, Clear, Value, done, toldOf, tells, stepIn, step}
-use Rattle.rules.specs.Prelude.{Unchanged, Becomes, Leaves, headerKept, isCreate, Comes, Promise, Answering, Answers, allocate, release, lookUp, list, listIn, clear}
+use Rattle.rules.specs.Prelude.{Atlas, Outcome, refused, gives, mapped, Given, Call, Allocate, Release, LookUp, ListIn, Clear, Value, done, tells, stepIn, step}
+use Rattle.rules.specs.Prelude.{Unchanged, Becomes, Leaves, headerKept, isCreate, Comes, Promise, Answers, allocate, release, lookUp, listIn, clear}
 use Rattle.rules.specs.Step.{item, items}
 use Rattle.promises.specs.Prelude.{grants, replies, listings, Allocates, Releases, Clears, LooksUp, Lists, ListedSo, records, written, counted, filled, itemsTold}
 use Rattle.promises.specs.declared.{answers.Grant.Grant, answers.Reply.Reply, answers.Listing.Listing}

@@ -16,7 +16,7 @@ use Rattle.chains.specs.Prelude.{Each}
 use Rattle.rules.specs.Prelude.{refused, freeSpace}
 use Rattle.laws.specs.Lives.{NoPixelShared, Pairs, areas}
 use Rattle.promise.specs.Run.{Did, Run, answered}
-use Rattle.promise.specs.Facts.{Pass, atlas, live, LiesIn, NoneMoved, Changes, Covers, NoPlaceExactly, TooFewExactly, ListsLive, countOf}
+use Rattle.promise.specs.Facts.{Pass, atlas, live, LiesIn, NoneMoved, Changes, Covers, JudgedFirst, NoPlaceExactly, TooFewExactly, ListsLive, countOf}
 
 -- `st` is where the run starts, and `now` a state that it comes to, before its next call or at its end; `next` is what that call leaves
 pub record Demand3 (st : State) : Type 0 where
@@ -34,6 +34,7 @@ pub record Demand3 (st : State) : Type 0 where
   -- "a grant covers the sides asked for."
   pub grant-covers-the-sides : (now next : State) → Run st now → (did : Did now next) → Covers did
   -- "A request that passes checks 4 and 5 gets "no place" exactly when no shelf at least as deep as the rounded request has a wide enough free stretch."
+  pub checks-4-and-5-first : (now next : State) → Run st now → (did : Did now next) → JudgedFirst did
   pub no-place-exactly : (now next : State) → Run st now → (did : Did now next) → NoPlaceExactly did
   pub too-few-rows-exactly : (now next : State) → Run st now → (did : Did now next) → TooFewExactly did
   -- of every refusal

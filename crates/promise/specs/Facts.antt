@@ -1,15 +1,15 @@
 -- What demand 3 says of a state, of a step and of a run, in the caller's terms: live rectangles as `list` tells them, pixels in x and y, and raw sides.
 -- Assumes nothing.
-use Rattle.numbers.specs.Library.{ℕ, _+_, _*_, _≤_, _<_, _≡_, true, _&&_, _⊎_, some, List, [], _∷_, ℤ, pos, eqb, length}
+use Rattle.numbers.specs.Library.{ℕ, _+_, _<_, _≡_, _&&_, List, [], _∷_, eqb, length}
 use Rattle.numbers.specs.Prelude.{pick, asked}
 use Rattle.numbers.specs.declared.request.Asked.{Asked}
-use Rattle.numbers.specs.declared.request.Request.the-variants.{Good}
+use Rattle.numbers.specs.declared.request.Request.the-variants.{Good, Refused}
 use Rattle.rows.specs.declared.live.Live.{Live}
 use Rattle.shelf_edits.specs.State.{State}
-use Rattle.chains.specs.Prelude.{_iff_, Each, Focus}
-use Rattle.rules.specs.Prelude.{Item, Shelf, Atlas, Room, roomIn, atlasIn, Passes, Held, good, bad, search, findItem, splitsShelf, splitsItem, tooFewRows, list, sizeX, sizeY}
-use Rattle.laws.specs.Lives.{OneMore, HasPixel, area}
-use Rattle.laws.specs.Places.{NoPlace}
+use Rattle.chains.specs.Prelude.{_iff_, Each}
+use Rattle.rules.specs.Prelude.{Atlas, Room, roomIn, atlasIn, Passes, list, sizeX, sizeY}
+use Rattle.laws.specs.Lives.{OneMore, HasPixel, Covered, area}
+use Rattle.laws.specs.Places.{NoPlace, TooFew}
 use Rattle.promises.specs.Prelude.{written}
 use Rattle.promises.specs.declared.answers.Grant.the-variants as grant
 use Rattle.promises.specs.declared.answers.Reply.the-variants as reply
@@ -62,15 +62,6 @@ Changes {st} {st′} (lookedUp row generation answer p same) = live st′ ≡ li
 Changes {st} {st′} (listed out answer out′ p same) = live st′ ≡ live st
 Changes {st} {st′} (cleared answer p) = (answer ≡ reply.Done) × (live st′ ≡ [])
 
--- The sides as they were asked for are whole numbers, and the rectangle is at least as long in x and in y.
-pub record Covered (w height : ℤ) (v : Live) : Type 0 where
-  pub x-side : ℕ
-  pub y-side : ℕ
-  pub w-is : w ≡ pos x-side
-  pub height-is : height ≡ pos y-side
-  pub x-covered : v .x0 + x-side ≤ v .x1
-  pub y-covered : v .y0 + y-side ≤ v .y1
-
 abbrev pub Covers : {st st′ : State} → Did st st′ → Type 0
 Covers (allocated w height (grant.Granted v) p) = Covered w height v
 Covers (allocated w height (grant.Refused n) p) = Unit {0}
@@ -78,6 +69,14 @@ Covers (released row generation answer p) = Unit {0}
 Covers (lookedUp row generation answer p same) = Unit {0}
 Covers (listed out answer out′ p same) = Unit {0}
 Covers (cleared answer p) = Unit {0}
+
+-- A request that fails check 4 or 5 gets that answer.
+abbrev pub JudgedFirst : {st st′ : State} → Did st st′ → Type 0
+JudgedFirst {st} (allocated w height answer p) = (n : ℕ) → asked (st .header .limits) w height ≡ Refused n → answer ≡ grant.Refused n
+JudgedFirst (released row generation answer p) = Unit {0}
+JudgedFirst (lookedUp row generation answer p same) = Unit {0}
+JudgedFirst (listed out answer out′ p same) = Unit {0}
+JudgedFirst (cleared answer p) = Unit {0}
 
 -- A request that passes checks 4 and 5 asks for `q`: its width aligned, its depth aligned and rounded.
 abbrev pub NoPlaceExactly : {st st′ : State} → Did st st′ → Type 0
@@ -87,15 +86,6 @@ NoPlaceExactly (released row generation answer p) = Unit {0}
 NoPlaceExactly (lookedUp row generation answer p same) = Unit {0}
 NoPlaceExactly (listed out answer out′ p same) = Unit {0}
 NoPlaceExactly (cleared answer p) = Unit {0}
-
--- "the chosen splits need more rows of a table than are freed or unused there"
-pub record TooFew (left : Room) (a : Atlas) (q : Asked) : Type 0 where
-  pub shelf : Focus Shelf
-  pub item : Focus Item
-  pub row : ℕ
-  pub chosen : (search q (a .shelves) ≡ good shelf row) ⊎ (search q (a .shelves) ≡ bad shelf row)
-  pub its-item : findItem row [] (shelf .this .items) ≡ some item
-  pub too-few : tooFewRows left (a .rows) (splitsShelf q (shelf .this)) (splitsItem q (item .this)) ≡ true
 
 abbrev pub TooFewExactly : {st st′ : State} → Did st st′ → Type 0
 TooFewExactly {st} (allocated w height answer p) =

@@ -2,7 +2,7 @@
 -- Assumes nothing.
 use Rattle.numbers.specs.Library.{ℕ, _≡_, List, ℤ}
 use Rattle.shelf_edits.specs.State.{State}
-use Rattle.rules.specs.Prelude.{Outcome, Value, Answering}
+use Rattle.rules.specs.Prelude.{Outcome, Value}
 use Rattle.promises.specs.Prelude.{grants, replies, listings, Allocates, Releases, Clears, LooksUp, Lists}
 use Rattle.promises.specs.declared.{answers.Grant.Grant, answers.Reply.Reply, answers.Listing.Listing}
 

@@ -1,5 +1,5 @@
 -- A grant covers the sides as they were asked for: each was rounded up, and changed places with the other twice or not at all. Assumes nothing.
-use Rattle.numbers.specs.Library.{ℕ, _+_, _≤_, _≡_, refl, Bool, true, false, _&&_, ℤ, pos, negsuc, arith, leb, eqb}
+use Rattle.numbers.specs.Library.{ℕ, _≤_, _≡_, refl, Bool, true, false, _&&_, ℤ, pos, negsuc, arith, leb, eqb}
 use Rattle.numbers.specs.Prelude.{pick, oneTo, natural, sideOf, askedOf, asked, firstAxis, secondAxis, WithinLimits}
 use Rattle.numbers.specs.Request.{askedWithin, judged}
 use Rattle.numbers.specs.Round.{roundUp, rounds-up}
@@ -9,8 +9,7 @@ use Rattle.numbers.specs.declared.{sides.Side.Side, limits.Limits.Limits, reque
 use Rattle.numbers.specs.declared.sides.Side.the-variants.{Fits, Bad}
 use Rattle.numbers.specs.declared.request.Request.the-variants.{Good, Refused}
 use Rattle.rows.specs.declared.live.Live.{Live}
-use Rattle.laws.specs.Lives.{Enough}
-use Rattle.promise.specs.Facts.{Covered}
+use Rattle.laws.specs.Lives.{Enough, Covered}
 
 -- a side that fits is the number that was asked for
 side-is : (w : ℤ) (m : ℕ) → sideOf w ≡ Fits m → w ≡ pos m

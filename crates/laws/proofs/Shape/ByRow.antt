@@ -1,7 +1,7 @@
 -- The live records of an atlas by rising row, as `list` tells them, against the same records in the order of its shelves: the same ones, each once.
 -- So what the laws say of the one order holds in the other. Assumes nothing.
-use Rattle.numbers.specs.Library.{ℕ, zero, suc, _+_, _-_, _≤_, _<_, _≡_, refl, sym, ap, _∙_, _≢_, inr, ⊎-elim, Bool, true, false, Option, none, some, List, [], _∷_, _++_}
-use Rattle.numbers.specs.Library.{append-assoc, append-nil, List·Memᴰ·head, List·Memᴰ·tail, Memᴰ·append-left, Memᴰ·append-right, ℕ-discrete, decLt, arith, eqb, eq-eqb, ne-eqb, eqb-true}
+use Rattle.numbers.specs.Library.{ℕ, zero, suc, _+_, _-_, _≤_, _<_, _≡_, refl, sym, ap, _∙_, _≢_, inr, Bool, true, false, Option, none, some, List, [], _∷_, _++_}
+use Rattle.numbers.specs.Library.{append-assoc, append-nil, List·Memᴰ·head, List·Memᴰ·tail, Memᴰ·append-left, Memᴰ·append-right, ℕ-discrete, arith, eqb, eq-eqb, ne-eqb, eqb-true}
 use Rattle.numbers.specs.Prelude.{pick}
 use Rattle.numbers.specs.declared.limits.Limits.{Limits}
 use Rattle.rows.specs.declared.live.Live.{Live}
@@ -9,11 +9,10 @@ use Rattle.chains.specs.Prelude.{_∈_, Distinct, Each, Focus}
 use Rattle.chains.proofs.Prelude.{each-map, each-both, distinct-left, distinct-right, distinct-apart, in-onto}
 use Rattle.rules.specs.Prelude.{Item, Shelf, Atlas, Room, findItem, Found, find, liveOf, itemRows, allItemRows, WellFormed, livesBelow, list}
 use Rattle.rules.specs.Calls.{liveIn as liveInRow}
-use Rattle.laws.specs.Lives.{flat, liveIn, livesOn, lives, OneMore, NoPixelShared, Pairs, Inside, area, areas}
-use Rattle.laws.proofs.Shape.Flat.{each-append, pairs-append, pairs-with, Across}
+use Rattle.laws.specs.Lives.{flat, liveIn, livesOn, lives, OneMore, NoPixelShared, Pairs, areas}
+use Rattle.laws.proofs.Shape.Flat.{each-append, pairs-append, Across}
 use Rattle.laws.proofs.Shape.Finding.{FoundItem, find-item}
-use Rattle.laws.proofs.Shape.Rectangles.{one-more-area}
-use Rattle.laws.proofs.Shape.Kept.{lives-apart}
+use Rattle.laws.proofs.Shape.Rectangles.{all-apart, one-more-area}
 
 -- ---- records of one row, and by rising row
 
@@ -295,7 +294,7 @@ module _ (room : Room) (a : Atlas) (formed : WellFormed room a) where
   list-apart =
       let Differ : Live → Live → Type 0 = λ u w. OtherRow u w → NoPixelShared u w in
       let all : Across Differ (lives a) (lives a) =
-      pairs-across NoPixelShared Differ (λ u n. absurd (n refl)) (λ u w h. ((λ _. h), (λ _ x y p q. h x y q p))) (lives a) (lives-apart room a formed) in
+      pairs-across NoPixelShared Differ (λ u n. absurd (n refl)) (λ u w h. ((λ _. h), (λ _ x y p q. h x y q p))) (lives a) (all-apart a (formed .shaped)) in
       across-pairs Rising Differ NoPixelShared (λ u w h r. h (λ e. omega arith)) (list a)
       (list-each (λ u. Each (Differ u) (list a)) (each-map (λ u. Each (Differ u) (lives a)) (λ u. Each (Differ u) (list a)) (λ u. list-each (Differ u)) (lives a) all)) list-rises
 
