@@ -46,7 +46,7 @@ module _ (st : State) (demand : Demand3 st) (now next : State) (run : Run st now
 
   -- ---- "a release that changes nothing", and "a made-up occupied total"
 
-  grant-grows : (w height : ℤ) (v : Live) (p : Allocates (now .header) (now .shelves) (now .items) w height (record { answer = grant.Granted v; header = next .header }) (next .shelves) (next .items))
+  pub grant-grows : (w height : ℤ) (v : Live) (p : Allocates (now .header) (now .shelves) (now .items) w height (record { answer = grant.Granted v; header = next .header }) (next .shelves) (next .items))
       → next .header .occupied ≡ now .header .occupied + area v
   grant-grows w height v p =
       let did : Did now next = allocated w height (grant.Granted v) p in
