@@ -13,4 +13,7 @@ pub mod Flat
 pub mod LivesKept
 pub mod Columns
 pub mod Rectangles
+pub mod TooFew
+pub mod RawSides
+pub mod ByRow
 pub mod Kept

@@ -1,5 +1,5 @@
 -- The live rectangles of an atlas, in x and y: which there are, that they lie inside, that no two share a pixel, and their area. Assumes nothing.
-use Rattle.numbers.specs.Library.{ℕ, _+_, _-_, _*_, _≤_, _<_, _≡_, List, [], _∷_, _++_}
+use Rattle.numbers.specs.Library.{ℕ, _+_, _-_, _*_, _≤_, _<_, _≡_, List, [], _∷_, _++_, ℤ, pos}
 use Rattle.numbers.specs.Prelude.{pick, firstAxis, secondAxis}
 use Rattle.numbers.specs.declared.{limits.Limits.Limits, request.Asked.Asked}
 use Rattle.rows.specs.declared.live.Live.{Live}
@@ -56,6 +56,15 @@ pub record Inside (l : Limits) (v : Live) : Type 0 where
 pub record Enough (l : Limits) (asked : Asked) (v : Live) : Type 0 where
   pub x : v .x0 + firstAxis (l .vertical) (asked .width) (asked .depth) ≤ v .x1
   pub y : v .y0 + secondAxis (l .vertical) (asked .width) (asked .depth) ≤ v .y1
+
+-- The sides as they were asked for are whole numbers, and the rectangle is at least as long in x and in y.
+pub record Covered (w height : ℤ) (v : Live) : Type 0 where
+  pub x-side : ℕ
+  pub y-side : ℕ
+  pub w-is : w ≡ pos x-side
+  pub height-is : height ≡ pos y-side
+  pub x-covered : v .x0 + x-side ≤ v .x1
+  pub y-covered : v .y0 + y-side ≤ v .y1
 
 -- ---- their area
 

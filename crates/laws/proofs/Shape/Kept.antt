@@ -1,20 +1,27 @@
 -- What the atlas-level calls keep and what they find, in one place. Assumes nothing.
-use Rattle.numbers.specs.Library.{ℕ, _≤_, _+_, _≡_, sym, subst, _⊎_, ⊎-elim, _&&_, some, List, [], arith, eqb, eqb-true}
+use Rattle.numbers.specs.Library.{ℕ, zero, suc, _≤_, _+_, _≡_, refl, sym, ap, _∙_, subst, ℤ, _⊎_, ⊎-elim, _&&_, some, List, [], arith, eqb, eqb-true}
 use Rattle.numbers.specs.declared.{limits.Limits.Limits, request.Asked.Asked}
 use Rattle.rows.specs.declared.live.Live.{Live}
 use Rattle.chains.specs.Prelude.{_iff_, Each, Focus}
-use Rattle.rules.specs.Prelude.{Item, Shelf, Atlas, Room, occupied, fresh, nothing, good, bad, search, refused, findItem, liveOf, grants, grant, Found, names}
+use Rattle.rules.specs.Prelude.{Item, Shelf, Atlas, Room, occupied, freshShelf, freshShelves, fresh, list, nothing, good, bad, search, refused, findItem, liveOf, grants, grant, Found, names}
 use Rattle.rules.specs.Prelude.{findLive, releaseFound, Sound, Shaped, WellFormed}
-use Rattle.laws.specs.Places.{Fits, Chosen, NoPlace}
-use Rattle.laws.specs.Lives.{lives, OneMore, NoPixelShared, Pairs, Inside, Enough, area, areas}
+use Rattle.laws.specs.Places.{Fits, Chosen, NoPlace, TooFew}
+use Rattle.laws.specs.Lives.{flat, livesOn, lives, OneMore, NoPixelShared, Pairs, Inside, Enough, Covered, area, areas}
 use Rattle.numbers.specs.Prelude.{both, columns, WithinLimits, Placeable}
+use Rattle.numbers.specs.Prelude.{asked as request}
+use Rattle.numbers.specs.declared.request.Request.the-variants.{Good}
 use Rattle.laws.proofs.Shape.Fresh.{rows-sound, fresh-shape}
 use Rattle.laws.proofs.Shape.Finding.{Holding, search-holding, FoundLive, find-live}
-use Rattle.laws.proofs.Shape.Granting.{fits-found, granted-so}
+use Rattle.laws.proofs.Shape.Granting.{Grants, fits-found, granted-so, place-so, grant-so}
 use Rattle.laws.proofs.Shape.NoPlace.{search-nothing, refuses-6}
+use Rattle.laws.proofs.Shape.TooFew.{refuses-7}
 use Rattle.laws.proofs.Shape.GrantShaped.{grant-shape}
 use Rattle.laws.proofs.Shape.ReleaseShaped.{release-shape}
 use Rattle.laws.proofs.Shape.LivesKept.{grant-adds, release-takes}
+use Rattle.laws.proofs.Shape.RawSides as raw-sides
+use Rattle.laws.proofs.Shape.ByRow.{below, nothing-below, list-below}
+-- the list has an atlas's live records, by rising row
+pub use Rattle.laws.proofs.Shape.ByRow.{list-rises, list-each, list-apart, list-areas, list-one-more}
 use Rattle.laws.proofs.Shape.Rectangles.{all-inside, all-apart, occupied-is, one-more-area, grant-enough}
 
 -- ---- a fresh atlas
@@ -24,6 +31,17 @@ fresh-shaped = fresh-shape
 
 pub fresh-sound : (room : Room) (l : Limits) → WithinLimits l → columns l ≤ room .shelves → columns l ≤ room .items → Sound room (fresh l)
 fresh-sound room l w = rows-sound l room
+
+-- it lists nothing
+fresh-none : (l : Limits) (k n : ℕ) → flat (livesOn l) (freshShelves l k n) ≡ []
+unfolding freshShelves freshShelf
+fresh-none l k zero = refl
+fresh-none l k (suc n) = fresh-none l (suc k) n
+
+pub fresh-lists-none : (room : Room) (l : Limits) → WellFormed room (fresh l) → list (fresh l) ≡ []
+unfolding fresh columns
+fresh-lists-none room l formed =
+    list-below room (fresh l) formed (columns l) (omega arith) ∙ ap (λ (ls : List Live). below ls (columns l)) (fresh-none l 0 (columns l)) ∙ nothing-below (columns l)
 
 -- ---- the search
 
@@ -46,7 +64,23 @@ answers-6 room a asked formed =
     let (empty, held) = search-nothing room a formed asked in
     (λ e. empty (to e), λ n. from (held n))
 
+-- "too few rows", exactly
+pub answers-7 : (room : Room) (a : Atlas) (asked : Asked) → WellFormed room a → (grant room a asked ≡ refused 7) iff TooFew room a asked
+answers-7 room a asked formed = refuses-7 room a formed asked
+
 -- ---- a grant and a release
+
+-- neither changes the limits
+pub grant-limits : (room : Room) (a : Atlas) (asked : Asked) (live : Live) (a′ : Atlas) → WellFormed room a → grant room a asked ≡ grants live a′ → a′ .limits ≡ a .limits
+grant-limits room a asked live a′ formed e =
+    let Kept : Live → Atlas → Type 0 = λ live a′. a′ .limits ≡ a .limits in
+    granted-so Kept (grant room a asked) live a′
+    (grant-so room a (formed .sound) asked (Grants Kept) (λ _. tt) tt
+    (λ f w _ _. place-so a asked (Grants Kept) _ w _ _ (λ _. refl) (λ _. refl)) (λ f w _ _. place-so a asked (Grants Kept) f w (f .after) (a .rows) (λ _. refl) (λ _. refl))) e
+
+pub release-limits : (a : Atlas) (w : Found) → releaseFound a w .limits ≡ a .limits
+unfolding releaseFound
+release-limits a w = refl
 
 pub grant-shaped : (room : Room) (a : Atlas) (asked : Asked) (live : Live) (a′ : Atlas) → WellFormed room a → Placeable (a .limits) asked → grant room a asked ≡ grants live a′ → Shaped a′
 grant-shaped room a asked live a′ formed within e =
@@ -70,6 +104,10 @@ lives-apart room a formed = all-apart a (formed .shaped)
 pub grant-covers : (room : Room) (a : Atlas) (asked : Asked) (live : Live) (a′ : Atlas) → WellFormed room a → grant room a asked ≡ grants live a′ → Enough (a .limits) asked live
 grant-covers room a asked live a′ formed e =
     granted-so (λ v a′. Enough (a .limits) asked v) (grant room a asked) live a′ (grant-enough room a asked (formed .sound)) e
+
+-- and, of a request's raw sides, these too
+pub covers-raw : (l : Limits) (asked : Asked) → WithinLimits l → (w height : ℤ) (live : Live) → request l w height ≡ Good asked → Enough l asked live → Covered w height live
+covers-raw = raw-sides.covers-raw
 
 -- a grant adds one and moves none
 pub grant-lives : (room : Room) (a : Atlas) (asked : Asked) (live : Live) (a′ : Atlas) → WellFormed room a → grant room a asked ≡ grants live a′ → OneMore live (lives a) (lives a′)

@@ -1,0 +1,1 @@
+// Demand 3: what holds over any run of allocate, release, look-up, list and clear. No code.
