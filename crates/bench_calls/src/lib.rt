@@ -171,9 +171,9 @@ pub extern "C" fn bench_allocate(
 {
     let h = header_in(header);
     let said = allocate_unaudited(h, shelves, items, w, height);
-    let answer = said.answer;
     let after = said.header;
     put_header(header, after);
+    let answer = said.answer;
     grant_told(answer)
 }
 
@@ -190,9 +190,9 @@ pub extern "C" fn bench_release(
 {
     let h = header_in(header);
     let said = release_unaudited(h, shelves, items, row, generation);
-    let answer = said.answer;
     let after = said.header;
     put_header(header, after);
+    let answer = said.answer;
     reply_told(answer)
 }
 

@@ -1,5 +1,5 @@
 -- Whether the rows that are freed or unused suffice for the splits that a place needs: at most one shelf row and two item rows. Assumes nothing.
-use Rattle.numbers.specs.Library.{ℕ, _+_, _-_, _≤_, _≡_, Bool, true, false, not, _&&_, List, arith, leb, eqb, le-leb, not-true}
+use Rattle.numbers.specs.Library.{ℕ, _+_, _-_, _≤_, _≡_, refl, Bool, true, false, not, _&&_, List, arith, leb, eqb, le-leb, not-true}
 use Rattle.numbers.specs.Prelude.{pick, noRow}
 use Rattle.rows.specs.Prelude.{itemCapacity, itemAt, shelfCapacity}
 use Rattle.rows.specs.declared.header.Header.{Header}
@@ -51,3 +51,18 @@ pub none-needed : (h : Header) (S I : List ℕ) (shelfSplit itemSplit : Bool) �
 unfolding enoughRows count
 none-needed h S I shelfSplit itemSplit s i =
     rw (not-true shelfSplit s, not-true itemSplit i, le-leb 0 (spareShelves h S) (omega arith), le-leb 0 (spareItems h I) (omega arith))
+
+-- for an item that is split a freed row is enough
+one-freed : (h : Header) (I : List ℕ) → eqb (h .«free_items» .0) noRow ≡ false → 1 ≤ freedItems h I
+unfolding freedItems
+one-freed h I e = rw e (go (eqb (itemAt I (h .«free_items») .next .0) noRow)) where
+  go : (b : Bool) → 1 ≤ pick b 1 2
+  go true = omega arith
+  go false = omega arith
+
+pub freed-enough : (h : Header) (S I : List ℕ) (shelfSplit itemSplit : Bool) → not shelfSplit ≡ true → eqb (h .«free_items» .0) noRow ≡ false
+    → enoughRows h S I shelfSplit itemSplit ≡ true
+unfolding enoughRows count spareItems
+freed-enough h S I shelfSplit itemSplit s e =
+    let enough : count false + count itemSplit ≤ spareItems h I = omega (arith, few-splits itemSplit (count itemSplit) refl, one-freed h I e) in
+    rw (not-true shelfSplit s, le-leb 0 (spareShelves h S) (omega arith), le-leb (count false + count itemSplit) (spareItems h I) enough)

@@ -183,12 +183,16 @@ pub fn plan_at(h: Header, shelves: &[u16], items: &[u16], p: Place, asked: Asked
     }
 }
 
-// The rows left suffice for the plan: where nothing is split, none is needed.
+// The rows left suffice for the plan. Where nothing is split, none is needed, and where the item alone is, a freed one is enough.
 pub fn has_rows(h: Header, shelves: &[u16], items: &[u16], p: Plan) -> bool
     ensures { λ r. ⌜ r ≡ hasRows h (now (shelves .entry)) (now (items .entry)) p ⌝ }
 {
     if !p.shelf_split {
         if !p.item_split {
+            return true;
+        }
+        let head = h.free_items;
+        if !head.is_none() {
             return true;
         }
     }

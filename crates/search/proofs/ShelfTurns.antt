@@ -8,13 +8,19 @@ use Rattle.chains.specs.Prelude.{Each, rowsFrom, EndsFrom}
 use Rattle.chains.proofs.Prelude.{Onward, ends-onward, ends-among, rows-among, met-end}
 use Rattle.rules.specs.Prelude.{shelfNext, freeNext}
 use Rattle.search.specs.declared.Place.{Place}
-use Rattle.search.specs.Search.{Held, nothing, good, bad, placeOf, firstWide, isBadFit, skipped, tried, looked, isExact, walk, search, shallowerThan, skippedBy}
+use Rattle.search.specs.Search.{Held, nothing, good, bad, placeOf, firstWide, isBadFit, skipped, tried, looked, isExact, walk, search}
+use Rattle.search.specs.Search.{shallowerThan, skippedBy, PastSkipped, start, past}
 use Rattle.search.specs.Walkable.{WalkableFrom, Walkable}
 use Rattle.search.proofs.InUse.{InUse, few-shelves, few-items, looked-in-use}
 use Rattle.search.proofs.Tests.{fails, holds}
+use Rattle.search.proofs.ToTry.{chainFrom}
 use Rattle.search.proofs.Skipping.{skips-so, bad-first, exact-fits}
 
 -- ---- from one shelf to the next
+
+-- the chain, among the rows that the table has
+pub chain-there : {h : Header} {S I : List ℕ} {at : ℕ} → WalkableFrom h S I at → EndsFrom (shelfNext S) (rows shelves S) at
+chain-there {h} {S} {I} {at} w = ends-among (shelfNext S) (h .«used_shelves») (rows shelves S) (w .shelves-fit) (rows-few shelves S) at (w .chain-ends)
 
 module _ {h : Header} {S I : List ℕ} {at : ℕ} (w : WalkableFrom h S I at) (some : at ≢ noRow) where
   on : Onward (shelfNext S) (h .«used_shelves») (few-shelves w) at
@@ -39,10 +45,9 @@ module _ {h : Header} {S I : List ℕ} {at : ℕ} (w : WalkableFrom h S I at) (s
     list-same = rw is (rows-among (freeNext I) (h .«used_items») (rows items I) (w .items-fit) (rows-few items I) _ (lists .0))
 
     -- the measure of the loop, which knows no header
-    pub shorter : length (rowsFrom (shelfNext S) (rows shelves S) (s .next .0)) < length (rowsFrom (shelfNext S) (rows shelves S) at)
+    pub shorter : length (chainFrom S (s .next .0)) < length (chainFrom S at)
     shorter =
-        let ends : EndsFrom (shelfNext S) (rows shelves S) at = ends-among (shelfNext S) (h .«used_shelves») (rows shelves S) (w .shelves-fit) (rows-few shelves S) at (w .chain-ends) in
-        let o : Onward (shelfNext S) (rows shelves S) (rows-few shelves S) at = ends-onward (shelfNext S) (rows shelves S) (rows-few shelves S) at some ends in
+        let o : Onward (shelfNext S) (rows shelves S) (rows-few shelves S) at = ends-onward (shelfNext S) (rows shelves S) (rows-few shelves S) at some (chain-there w) in
         rw (is, o .rows-are) (omega arith)
 
 -- ---- the loop's numbers
@@ -89,19 +94,20 @@ module _ {h : Header} {S I : List ℕ} {q : Asked} {at below : ℕ} {p : Place} 
       same = step ∙ rw (e, inexact);
     }
 
-    -- `pass` is what the code tests of the shelf, by its numbers
-    module _ (goodTo : ℕ) (fit : goodTo ≡ goodFitTo (q .depth)) (short : s .height ≤ 65535) {pass : Bool} (told : pass ≡ skippedBy (q .depth) goodTo below (p .item) s) where
-      skips : pass ≡ skipped q (turn .held) s
-      skips = (rw (turn .bound, turn .place, fit) at told) ∙ skips-so h (few-items (turn .ahead)) q s short (turn .held) (turn .in-use)
+    module _ (goodTo : ℕ) (fit : goodTo ≡ goodFitTo (q .depth)) (short : s .height ≤ 65535) where
+      -- what the code's numbers tell of the shelf
+      skips : {pass : Bool} → skippedBy (q .depth) goodTo below (p .item) (get shelves S at) ≡ pass → skipped q (turn .held) s ≡ pass
+      skips told = sym (skips-so h (few-items (turn .ahead)) q s short (turn .held) (turn .in-use)) ∙ (rw (turn .bound, turn .place, fit, ← is) at told)
 
-      pub past-skipped : not pass ≡ false → AtShelf h S I q (s .next .0) below p
+      pub past-skipped : skippedBy (q .depth) goodTo below (p .item) (get shelves S at) ≡ true → AtShelf h S I q (s .next .0) below p
       unfolding looked
-      past-skipped e = onward (turn .held) (rw (holds skips e)) (turn .inexact) below (turn .bound) p (turn .place)
+      past-skipped e = onward (turn .held) (rw (skips e)) (turn .inexact) below (turn .bound) p (turn .place)
 
       -- `found` is the first item of its free list that is wide enough
-      module _ (e : not pass ≡ true) (found : ItemIndex) (first : found ≡ firstWide I (q .width) (rowsFrom (freeNext I) (rows items I) (s .«first_unallocated» .0))) where
+      module _ (e : skippedBy (q .depth) goodTo below (p .item) (get shelves S at) ≡ false) (found : ItemIndex)
+          (first : found ≡ firstWide I (q .width) (rowsFrom (freeNext I) (rows items I) (s .«first_unallocated» .0))) where
         looks : skipped q (turn .held) s ≡ false
-        looks = fails skips e
+        looks = skips e
 
         first-used : found ≡ firstWide I (q .width) (rowsFrom (freeNext I) (h .«used_items») (s .«first_unallocated» .0))
         first-used = first ∙ ap (firstWide I (q .width)) (list-same (turn .ahead) some s is)
@@ -139,3 +145,21 @@ module _ {h : Header} {S I : List ℕ} {q : Asked} {at below : ℕ} {p : Place} 
             past-bad b =
                 let none-yet : turn .held ≡ nothing = bad-first q s (turn .held) looks (rw fit at (holds judged b)) in
                 onward (bad here) (now-bad (holds judged b)) refl below (turn .bound ∙ ap shallowerThan none-yet) here refl
+
+-- ---- to the next shelf to try
+
+-- all the shelves before it are skipped, so that what is held stays
+module _ {h : Header} {S I : List ℕ} {q : Asked} {from below : ℕ} {p : Place} (turn : AtShelf h S I q from below p)
+    (goodTo : ℕ) (fit : goodTo ≡ goodFitTo (q .depth)) where
+  pub reached : {at : ℕ} → PastSkipped S (q .depth) goodTo below (p .item) from at → AtShelf h S I q at below p
+  reached start = turn
+  reached (past at passed some short e) = past-skipped (reached passed) some (get shelves S at) refl goodTo fit short e
+
+  nearer : {at : ℕ} → PastSkipped S (q .depth) goodTo below (p .item) from at → length (chainFrom S at) ≤ length (chainFrom S from)
+  nearer start = omega arith
+  nearer (past at passed some short e) = omega (arith, nearer passed, shorter (reached passed .ahead) some (get shelves S at) refl)
+
+  -- past the shelf that is tried, less of the chain is left
+  pub closer : {at : ℕ} → PastSkipped S (q .depth) goodTo below (p .item) from at → at ≢ noRow → (s : ShelfRow) → s ≡ get shelves S at
+      → length (chainFrom S (s .next .0)) < length (chainFrom S from)
+  closer passed some s is = omega (arith, nearer passed, shorter (reached passed .ahead) some s is)

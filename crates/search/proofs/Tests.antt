@@ -1,4 +1,5 @@
--- What a branch on a negated call tells of what the call tests: `fails` and `some` where the branch is taken, `holds` and `none` where it is left.
+-- What a branch on a call, or on a negated one, tells of what the call tests. Of a negated one: `fails` and `some` where the branch is taken, `holds` and
+-- `none` where it is left.
 -- Assumes nothing.
 use Rattle.numbers.specs.Library.{ℕ, _≡_, sym, _∙_, _≢_, Bool, true, false, not, eqb, eqb-true, not-true, not-false}
 use borrow.Author.Tests.{eqb-false}
@@ -18,3 +19,10 @@ module _ {told : Bool} {row : ℕ} (is : told ≡ eqb row noRow) where
 
   pub none : not told ≡ false → row ≡ noRow
   none e = eqb-true row noRow (holds is e)
+
+  -- not negated
+  pub is-none : told ≡ true → row ≡ noRow
+  is-none e = eqb-true row noRow (sym is ∙ e)
+
+  pub is-some : told ≡ false → row ≢ noRow
+  is-some e = eqb-false row noRow (sym is ∙ e)

@@ -1,5 +1,5 @@
 -- Where a request goes, by reads along the chains: the shelf chain, and the free list of a shelf, as far as used rows are met there. Assumes nothing.
-use Rattle.numbers.specs.Library.{ℕ, _≡_, _⊎_, Bool, true, false, not, _&&_, _||_, List, [], _∷_, leb, ltb, eqb}
+use Rattle.numbers.specs.Library.{ℕ, _≤_, _≡_, _≢_, _⊎_, Bool, true, false, not, _&&_, _||_, List, [], _∷_, leb, ltb, eqb}
 use Rattle.numbers.specs.Prelude.{pick, goodFitTo, noRow, noShelf, noItem}
 use Rattle.numbers.specs.declared.{index.ItemIndex.ItemIndex, request.Asked.Asked}
 use Rattle.rows.specs.Prelude.{get, items, shelves}
@@ -92,3 +92,14 @@ shallowerThan (bad p) = 65536
 unfoldable pub skippedBy : ℕ → ℕ → ℕ → ItemIndex → ShelfRow → Bool
 skippedBy depth goodTo below item s =
     (ltb (s .height) depth || leb below (s .height)) || (isBadFit goodTo s && not (eqb (item .0) noRow))
+
+-- From row `from` on, the chain leads to row `at` past shelves that are skipped. Each was read, so its depth fits in 16 bits.
+pub data PastSkipped (S : List ℕ) (depth goodTo below : ℕ) (item : ItemIndex) (from : ℕ) : ℕ → Type 0 where
+  start : PastSkipped S depth goodTo below item from from
+  past : (at : ℕ) → PastSkipped S depth goodTo below item from at → at ≢ noRow → get shelves S at .height ≤ 65535
+      → skippedBy depth goodTo below item (get shelves S at) ≡ true → PastSkipped S depth goodTo below item from (shelfNext S at)
+
+-- Row `at` is the first from `from` on whose shelf is not skipped, or no row where the chain ends before one.
+pub record NextToTry (S : List ℕ) (depth goodTo below : ℕ) (item : ItemIndex) (from at : ℕ) : Type 0 where
+  pub passed : PastSkipped S depth goodTo below item from at
+  pub tried : at ≢ noRow → skippedBy depth goodTo below item (get shelves S at) ≡ false
