@@ -73,13 +73,13 @@ use denote.Signature.{plain}
 use denote.Steps.{opens, closes, only, owned, facts, heard, nothing}
 use denote.Struct.Steps.{spelt}
 use denote.Struct.Laws as LL
-use denote.Enum.Laws as EL
 use denote.Triple.Statement.{Contract, Triple}
 use denote.Triple.Call.{calls-at}
 use denote.Triple.Clauses.{ensured, lasts}
 use denote.Triple.Entry.{onEntry}
 use denote.Triple.Spec.{Meets, tripleOf}
 use denote.Triple.Table.{entered, cited}''')
+    if res[0]=='enum': P('use denote.Enum.Laws as EL')
     P('use denote.Triple.Walked.{says, Stays, stay-ref, gave-slice, '+('stay-none, goes-none, ' if m else '')+'walkOf, AllGo, goes-ref, goes-gave-slice, Walks, ends-at, walked, walk-meets}')
     if m: P('use denote.Exit.{yes}')
     for u in uses: P(u)
@@ -87,7 +87,7 @@ use denote.Triple.Table.{entered, cited}''')
     (hc,hp),(rc,rp)=hmod,rmod
     P(f'use Rattle.{hc}.specs.declared.{hp}.{{{H}}}'); P(f'use Rattle.{rc}.specs.declared.{rp}.{{{R}}}')
     P(f'use Rattle.{hc}.proofs.{hp} as T'); P(f'use Rattle.{hc}.proofs.{hp}.Laws as T′'); P(f'use Rattle.{rc}.proofs.{rp} as R'); P(f'use Rattle.{rc}.proofs.{rp}.Laws as R′')
-    if res[0]=='enum': P(f'use Rattle.{amod[0]}.proofs.{amod[1]} as G'); P(f'use Rattle.{amod[0]}.proofs.{amod[1]}.Laws as G′')
+    if res[0]!='int': P(f'use Rattle.{amod[0]}.proofs.{amod[1]} as G'); P(f'use Rattle.{amod[0]}.proofs.{amod[1]}.Laws as G′')
     cp=f'Rattle.{cmod[0]}.proofs.{cmod[1]}'
     P(f'use {cp} as callee'); P(f'use {cp}.Symbol as callee-def'); P(f'use {cp}.Symbol.{{name as #callee}}'); P(f'use {cp}.Met as callee-thm')
     P(f'use {PR}.{fn}.Key.{{name as #self}}'); P(f'use {PR}.{fn} as self'); P(f'use {PR}.{fn}.Statement as stated'); P(f'use {PR}.{fn}.Code as code')
@@ -100,6 +100,8 @@ use denote.Triple.Table.{entered, cited}''')
     P(f'-- the machine value of a header, and of the answer'); P(f'abbrev mach : {H} → Val'); P('mach = LL.val T.the-type T′.the-laws'); P('')
     if res[0]=='int':
         row=res[1]; arow=row; amk=f'(uint-makes 𝓤 H A W {wid[row]})'; alaw=f'uint-lawful 𝓤 H A W {wid[row]}'; aval=f'only (uint-vals {wid[row]} (r .{ansf}))'
+    elif res[0]=='struct':
+        arow='G.the-row'; amk='(LL.makes G.the-type G′.the-plain 𝓤 H A)'; alaw='LL.lawful G.the-type G′.the-laws 𝓤 H A W'; aval=f'LL.val G.the-type G′.the-laws (r .{ansf})'
     else:
         arow='G.the-row'; amk='(EL.makes G.the-type G′.the-plain 𝓤 H A)'; alaw='EL.lawful G.the-type G′.the-laws 𝓤 H A W tt'; aval=f'EL.val G.the-type G′.the-laws (r .{ansf})'
     P(f'abbrev answered : {R} → Val'); P(f'answered r = {aval}'); P('')
@@ -214,19 +216,26 @@ use denote.Triple.Table.{entered, cited}''')
     return '\n'.join(o)+'\n'
 if __name__=='__main__':
     import os
-    def put(crate, fn, text):
+    def put(crate, fn, callee, H, R, plains, res, said, uses, hmod, rmod, amod, cmod):
+        text=gen(crate,fn,callee,H,R,['shelves','items'],plains,res,'answer','header',said,'e',uses,hmod=hmod,rmod=rmod,amod=amod,cmod=cmod)
         d=os.path.join('crates',crate,'proofs',fn)
         os.makedirs(d,exist_ok=True)
         open(os.path.join(d,'Proof.antt'),'w').write(text)
-    put('surface','allocate',gen('surface','allocate','allocate','Header','Allocated',['shelves','items'],[('w','i32'),('height','i32')],('enum','Grant'),'answer','header',
-      'Allocates (h .now) (shelves .now) (items .now) w height r z1 z2','e',
-      ['use Rattle.promises.specs.Prelude.{Allocates}'],
-      hmod=('rows','header.Header'), rmod=('promises','answers.Allocated'), amod=('promises','answers.Grant'), cmod=('allocate','allocate')))
-    put('surface','release',gen('surface','release','release','Header','Replied',['shelves','items'],[('row','u16'),('generation','u16')],('enum','Reply'),'answer','header',
-      'Releases (h .now) (shelves .now) (items .now) row generation r z1 z2','e',
-      ['use Rattle.promises.specs.Prelude.{Releases}'],
-      hmod=('rows','header.Header'), rmod=('promises','answers.Replied'), amod=('promises','answers.Reply'), cmod=('release','release')))
-    put('surface','clear',gen('surface','clear','clear','Header','Replied',['shelves','items'],[],('enum','Reply'),'answer','header',
-      'Clears (h .now) (shelves .now) (items .now) r z1 z2','e',
-      ['use Rattle.promises.specs.Prelude.{Clears}'],
-      hmod=('rows','header.Header'), rmod=('promises','answers.Replied'), amod=('promises','answers.Reply'), cmod=('create','clear')))
+    sides=[('w','i32'),('height','i32')]
+    named=[('row','u16'),('generation','u16')]
+    # crates/surface: a header of the allocator, and answers that are enums
+    def surface(fn, R, plains, A, promise, by_value):
+        given=''.join(' '+p for p,_ in plains)
+        put('surface',fn,fn,'Header',R,plains,('enum',A),f'{promise} (h .now) (shelves .now) (items .now){given} r z1 z2',[f'use Rattle.promises.specs.Prelude.{{{promise}}}'],
+          ('rows','header.Header'),('promises','answers.'+R),('promises','answers.'+A),(by_value,fn))
+    surface('allocate','Allocated',sides,'Grant','Allocates','allocate')
+    surface('release','Replied',named,'Reply','Releases','release')
+    surface('clear','Replied',[],'Reply','Clears','create')
+    # crates/plytimber: a host's header, and answers in plain numbers
+    def host(fn, R, plains, res, promise):
+        given=''.join(' '+p for p,_ in plains)
+        put('plytimber','plytimber_'+fn,fn,'AtlasHeader',R,plains,res,f'{promise} (h .now) (shelves .now) (items .now){given} (r .answer) (r .header) z1 z2',[f'use Rattle.hosts.specs.Told.{{{promise}}}'],
+          ('hosts','values.AtlasHeader'),('hosts',R),('hosts','values.HostGrant'),('hosts',fn))
+    host('allocate','HostAllocated',sides,('struct','HostGrant'),'AllocatesHere')
+    host('release','HostReplied',named,('int','u32'),'ReleasesHere')
+    host('clear','HostReplied',[],('int','u32'),'ClearsHere')

@@ -2,8 +2,8 @@
 use Rattle.numbers.specs.Library.{ℕ, _+_, _*_, _/_, _%_, _≡_, subst, List, ℤ, length, getD, set, arith}
 use Rattle.rows.specs.Prelude.{each-all}
 use Rattle.rows.specs.declared.header.Header.{Header}
-use Rattle.plytimber.specs.Host.{headerOf}
-use Rattle.plytimber.specs.declared.AtlasHeader.{AtlasHeader}
+use Rattle.hosts.specs.Values.{headerOf}
+use Rattle.hosts.specs.declared.values.AtlasHeader.{AtlasHeader}
 use Rattle.promises.specs.Prelude.{Allocates, Releases, LooksUp, Lists}
 use Rattle.promises.specs.declared.{answers.Grant.Grant, answers.Reply.Reply, answers.Listing.Listing, answers.Allocated.Allocated, answers.Replied.Replied}
 use Rattle.promises.specs.declared.answers.Grant.the-variants as grant

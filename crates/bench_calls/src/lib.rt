@@ -2,16 +2,16 @@
 // what a host is given: nothing checks what they ask of a caller in C.
 ghost use mathlib.Core.Path.{_≡_};
 ghost use Prim.Native.Nat.{_*_, _+_};
-ghost use Rattle.plytimber.specs.Host.{headerOf};
+ghost use Rattle.hosts.specs.Values.{headerOf};
 ghost use Rattle.rules.specs.Prelude.{Passes};
 ghost use Rattle.bench_calls.specs.Told.{headerIn, headerPut, grantTold, replyTold, lookTold, listTold, AllocatesSo, ReleasesSo, LooksUpSo, ListsSo};
 use allocate::allocate_unaudited;
+use hosts::values::AtlasHeader;
+use hosts::values::header_of;
 use listing::list::list_unaudited;
 use numbers::index::ItemIndex;
 use numbers::index::ShelfIndex;
 use numbers::limits::Limits;
-use plytimber::AtlasHeader;
-use plytimber::header_of;
 use promises::answers::Grant;
 use promises::answers::Listing;
 use promises::answers::Reply;

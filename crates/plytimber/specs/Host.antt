@@ -1,27 +1,11 @@
 -- What the exported functions say to a host. Assumes nothing.
 use Rattle.numbers.specs.Library.{ℕ, _≡_, ap, sym, _∙_, List}
-use Rattle.rows.specs.declared.header.Header.{Header}
 use Rattle.audit.specs.Verdicts.{Exact, one-verdict}
 use Rattle.audit.specs.declared.Verdict.{Verdict}
 use Rattle.audit.specs.declared.Verdict.the-variants.{Passes, Rule1, Rule2, Rule3, Rules5To7}
-use Rattle.plytimber.specs.declared.{AtlasHeader.AtlasHeader, AuditAnswer.AuditAnswer}
-
-abbrev pub headerOf : AtlasHeader → Header
-headerOf h = record {
-  limits = record {
-    width = h .width;
-    height = h .height;
-    «align_width» = h .«align_width»;
-    «align_height» = h .«align_height»;
-    vertical = h .vertical;
-    «shelf_width» = h .«shelf_width»;
-  };
-  «used_shelves» = h .«used_shelves»;
-  «used_items» = h .«used_items»;
-  «free_items» = record { 0 = h .«free_items» };
-  «free_shelves» = record { 0 = h .«free_shelves» };
-  occupied = h .occupied;
-}
+use Rattle.hosts.specs.Values.{headerOf}
+use Rattle.hosts.specs.declared.values.AtlasHeader.{AtlasHeader}
+use Rattle.plytimber.specs.declared.AuditAnswer.{AuditAnswer}
 
 -- answer 3, "audit fails", with the rule beside it
 abbrev pub failing : ℕ → AuditAnswer

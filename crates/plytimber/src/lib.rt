@@ -1,47 +1,11 @@
 // What a host in C or Rust links: the calls as exported functions, over numbers, lent tables and plain structs.
 ghost use mathlib.Core.Path.{_≡_};
-ghost use Rattle.plytimber.specs.Host.{headerOf, failing, AuditSays};
+ghost use Rattle.hosts.specs.Told.{AllocatesHere, ReleasesHere, ClearsHere};
+ghost use Rattle.plytimber.specs.Host.{failing, AuditSays};
 use audit::Verdict;
-use numbers::index::ItemIndex;
-use numbers::index::ShelfIndex;
-use numbers::limits::Limits;
-use rows::header::Header;
-
-// The header as a host holds it: eleven numbers in the order of document 01.
-#[repr(C)]
-pub struct AtlasHeader {
-    pub width: u16,
-    pub height: u16,
-    pub align_width: u16,
-    pub align_height: u16,
-    pub vertical: u16,
-    pub shelf_width: u16,
-    pub used_shelves: u16,
-    pub used_items: u16,
-    pub free_items: u16,
-    pub free_shelves: u16,
-    pub occupied: u32,
-}
-
-pub fn header_of(h: AtlasHeader) -> Header
-    ensures { λ r. ⌜ r ≡ headerOf h ⌝ }
-{
-    Header {
-        limits: Limits {
-            width: h.width,
-            height: h.height,
-            align_width: h.align_width,
-            align_height: h.align_height,
-            vertical: h.vertical,
-            shelf_width: h.shelf_width,
-        },
-        used_shelves: h.used_shelves,
-        used_items: h.used_items,
-        free_items: ItemIndex(h.free_items),
-        free_shelves: ShelfIndex(h.free_shelves),
-        occupied: h.occupied,
-    }
-}
+use hosts::values::AtlasHeader;
+use hosts::values::HostGrant;
+use hosts::values::header_of;
 
 // Document 01's answers to a call.
 const DONE: u32 = 0;
@@ -82,4 +46,52 @@ pub extern "C" fn plytimber_audit(
         Verdict::Rule3 => fails(3),
         Verdict::Rules5To7 => fails(5),
     }
+}
+
+// ---- the calls that change an atlas: the header is lent and changed in place
+
+#[no_mangle]
+pub extern "C" fn plytimber_allocate(
+    h: &mut AtlasHeader,
+    shelves: &mut [u16],
+    items: &mut [u16],
+    w: i32,
+    height: i32,
+) -> HostGrant
+    ensures { λ r. ⌜ AllocatesHere (now (h .entry)) (now (shelves .entry)) (now (items .entry)) w height r (now (h .exit)) (now (shelves .exit)) (now (items .exit)) ⌝ }
+{
+    let v = *h;
+    let granted = hosts::allocate(v, shelves, items, w, height);
+    *h = granted.header;
+    granted.answer
+}
+
+#[no_mangle]
+pub extern "C" fn plytimber_release(
+    h: &mut AtlasHeader,
+    shelves: &mut [u16],
+    items: &mut [u16],
+    row: u16,
+    generation: u16,
+) -> u32
+    ensures { λ r. ⌜ ReleasesHere (now (h .entry)) (now (shelves .entry)) (now (items .entry)) row generation r (now (h .exit)) (now (shelves .exit)) (now (items .exit)) ⌝ }
+{
+    let v = *h;
+    let released = hosts::release(v, shelves, items, row, generation);
+    *h = released.header;
+    released.answer
+}
+
+#[no_mangle]
+pub extern "C" fn plytimber_clear(
+    h: &mut AtlasHeader,
+    shelves: &mut [u16],
+    items: &mut [u16],
+) -> u32
+    ensures { λ r. ⌜ ClearsHere (now (h .entry)) (now (shelves .entry)) (now (items .entry)) r (now (h .exit)) (now (shelves .exit)) (now (items .exit)) ⌝ }
+{
+    let v = *h;
+    let cleared = hosts::clear(v, shelves, items);
+    *h = cleared.header;
+    cleared.answer
 }

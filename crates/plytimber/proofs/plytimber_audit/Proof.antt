@@ -4,8 +4,10 @@ use Rattle.audit.specs.Verdicts.{Exact}
 use Rattle.audit.specs.declared.Verdict.{Verdict}
 use Rattle.audit.specs.declared.Verdict.the-variants.{Passes, Rule1, Rule2, Rule3, Rules5To7}
 use Rattle.rows.specs.declared.header.Header.{Header}
-use Rattle.plytimber.specs.Host.{headerOf, answerOf, AuditSays}
-use Rattle.plytimber.specs.declared.{AtlasHeader.AtlasHeader, AuditAnswer.AuditAnswer}
+use Rattle.hosts.specs.Values.{headerOf}
+use Rattle.hosts.specs.declared.values.AtlasHeader.{AtlasHeader}
+use Rattle.plytimber.specs.Host.{answerOf, AuditSays}
+use Rattle.plytimber.specs.declared.AuditAnswer.{AuditAnswer}
 use Rattle.plytimber.proofs.plytimber_audit.Statement.{statement}
 use Rattle.plytimber.proofs.plytimber_audit.Tie as tie
 
