@@ -3,13 +3,15 @@ use Rattle.numbers.specs.Library.{ℕ, _≡_, List, ℤ}
 use Rattle.numbers.specs.Prelude.{pick}
 use Rattle.promises.specs.Prelude.{Allocates, Releases, Clears}
 use Rattle.promises.specs.declared.{answers.Grant.Grant, answers.Reply.Reply, answers.Listing.Listing, answers.Area.Area, answers.Extent.Extent, answers.Vacancy.Vacancy}
+use Rattle.promises.specs.declared.answers.Creation.{Creation}
+use Rattle.promises.specs.declared.answers.Creation.the-variants as creation
 use Rattle.promises.specs.declared.answers.Grant.the-variants as grant
 use Rattle.promises.specs.declared.answers.Reply.the-variants as reply
 use Rattle.promises.specs.declared.answers.Listing.the-variants as listing
 use Rattle.promises.specs.declared.answers.Area.the-variants as area
 use Rattle.promises.specs.declared.answers.Extent.the-variants as extent
 use Rattle.promises.specs.declared.answers.Vacancy.the-variants as vacancy
-use Rattle.hosts.specs.declared.{values.AtlasHeader.AtlasHeader, values.HostGrant.HostGrant, values.HostCount.HostCount, values.HostArea.HostArea}
+use Rattle.hosts.specs.declared.{values.AtlasHeader.AtlasHeader, values.HostGrant.HostGrant, values.HostCount.HostCount, values.HostArea.HostArea, values.HostCreated.HostCreated}
 use Rattle.hosts.specs.declared.{values.HostExtent.HostExtent, values.HostVacancy.HostVacancy}
 use Rattle.hosts.specs.Values.{headerOf}
 
@@ -36,6 +38,11 @@ extentTold (extent.Refused n) = record { answer = n; width = 0; height = 0 }
 abbrev pub vacancyTold : Vacancy → HostVacancy
 vacancyTold (vacancy.Vacant b) = record { answer = 0; vacant = pick b 1 0 }
 vacancyTold (vacancy.Refused n) = record { answer = n; vacant = 0 }
+
+-- a refused create has the all-zero header beside it
+abbrev pub createdTold : Creation → AtlasHeader → HostCreated
+createdTold (creation.Made columns) header = record { answer = 0; columns = columns; header = header }
+createdTold (creation.Refused n) header = record { answer = n; columns = 0; header = header }
 
 -- ---- the calls that change an atlas: the public call's promise, of a host's header before and after, and its answer told
 

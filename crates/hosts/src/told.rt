@@ -1,12 +1,15 @@
 // Each answer as a host is told it.
 ghost use mathlib.Core.Path.{_≡_};
-ghost use Rattle.hosts.specs.Told.{grantTold, replyTold, countTold, areaTold, extentTold, vacancyTold};
+ghost use Rattle.hosts.specs.Told.{grantTold, replyTold, countTold, areaTold, extentTold, vacancyTold, createdTold};
+use crate::values::AtlasHeader;
 use crate::values::HostArea;
 use crate::values::HostCount;
+use crate::values::HostCreated;
 use crate::values::HostExtent;
 use crate::values::HostGrant;
 use crate::values::HostVacancy;
 use promises::answers::Area;
+use promises::answers::Creation;
 use promises::answers::Extent;
 use promises::answers::Grant;
 use promises::answers::Listing;
@@ -105,6 +108,23 @@ pub fn vacancy_told(answer: Vacancy) -> HostVacancy
         Vacancy::Refused(n) => HostVacancy {
             answer: n as u32,
             vacant: 0,
+        },
+    }
+}
+
+pub fn created_told(answer: Creation, header: AtlasHeader) -> HostCreated
+    ensures { λ r. ⌜ r ≡ createdTold answer header ⌝ }
+{
+    match answer {
+        Creation::Made(columns) => HostCreated {
+            answer: 0,
+            columns: columns as u32,
+            header,
+        },
+        Creation::Refused(n) => HostCreated {
+            answer: n as u32,
+            columns: 0,
+            header,
         },
     }
 }

@@ -1,9 +1,14 @@
 -- What the exported functions say to a host. Assumes nothing.
-use Rattle.numbers.specs.Library.{ℕ, _≡_, ap, sym, _∙_, List}
+use Rattle.numbers.specs.Library.{ℕ, _≡_, ap, sym, _∙_, List, ℤ}
 use Rattle.audit.specs.Verdicts.{Exact, one-verdict}
 use Rattle.audit.specs.declared.Verdict.{Verdict}
 use Rattle.audit.specs.declared.Verdict.the-variants.{Passes, Rule1, Rule2, Rule3, Rules5To7}
+use Rattle.promises.specs.Prelude.{Creates, LooksUp, TellsOccupied, TellsFreeSpace, TellsSize, TellsEmpty, Lists}
+use Rattle.promises.specs.declared.{answers.Creation.Creation, answers.Grant.Grant, answers.Listing.Listing, answers.Area.Area, answers.Extent.Extent, answers.Vacancy.Vacancy}
 use Rattle.hosts.specs.Values.{headerOf}
+use Rattle.hosts.specs.Told.{createdTold, grantTold, countTold, areaTold, extentTold, vacancyTold}
+use Rattle.hosts.specs.declared.{values.HostCreated.HostCreated, values.HostGrant.HostGrant, values.HostCount.HostCount, values.HostArea.HostArea}
+use Rattle.hosts.specs.declared.{values.HostExtent.HostExtent, values.HostVacancy.HostVacancy}
 use Rattle.hosts.specs.declared.values.AtlasHeader.{AtlasHeader}
 use Rattle.plytimber.specs.declared.AuditAnswer.{AuditAnswer}
 
@@ -28,3 +33,41 @@ pub record AuditSays (h : AtlasHeader) (S I : List ℕ) (r : AuditAnswer) : Type
 -- one answer for any header and tables
 pub one-answer : (h : AtlasHeader) (S I : List ℕ) (r q : AuditAnswer) → AuditSays h S I r → AuditSays h S I q → r ≡ q
 one-answer h S I r q a b = a .answer ∙ ap answerOf (one-verdict (headerOf h) S I _ _ (a .exact) (b .exact)) ∙ sym (b .answer)
+
+-- ---- the other calls: the public call's promise, on a host's header, and its answer told
+
+pub record CreatesHere (S I : List ℕ) (w height alignWidth alignHeight vertical columns : ℤ) (r : HostCreated) (S′ I′ : List ℕ) : Type 0 where
+  pub said : Creation
+  pub header : AtlasHeader
+  pub promise : Creates S I w height alignWidth alignHeight vertical columns (record { answer = said; header = headerOf header }) S′ I′
+  pub told : r ≡ createdTold said header
+
+pub record LooksUpHere (h : AtlasHeader) (S I : List ℕ) (row generation : ℕ) (r : HostGrant) : Type 0 where
+  pub said : Grant
+  pub promise : LooksUp (headerOf h) S I row generation said
+  pub told : r ≡ grantTold said
+
+pub record ListsHere (h : AtlasHeader) (S I out : List ℕ) (r : HostCount) (out′ : List ℕ) : Type 0 where
+  pub said : Listing
+  pub promise : Lists (headerOf h) S I out said out′
+  pub told : r ≡ countTold said
+
+pub record OccupiedHere (h : AtlasHeader) (S I : List ℕ) (r : HostArea) : Type 0 where
+  pub said : Area
+  pub promise : TellsOccupied (headerOf h) S I said
+  pub told : r ≡ areaTold said
+
+pub record FreeSpaceHere (h : AtlasHeader) (S I : List ℕ) (r : HostArea) : Type 0 where
+  pub said : Area
+  pub promise : TellsFreeSpace (headerOf h) S I said
+  pub told : r ≡ areaTold said
+
+pub record SizeHere (h : AtlasHeader) (S I : List ℕ) (r : HostExtent) : Type 0 where
+  pub said : Extent
+  pub promise : TellsSize (headerOf h) S I said
+  pub told : r ≡ extentTold said
+
+pub record EmptyHere (h : AtlasHeader) (S I : List ℕ) (r : HostVacancy) : Type 0 where
+  pub said : Vacancy
+  pub promise : TellsEmpty (headerOf h) S I said
+  pub told : r ≡ vacancyTold said

@@ -1,11 +1,19 @@
 // What a host in C or Rust links: the calls as exported functions, over numbers, lent tables and plain structs.
 ghost use mathlib.Core.Path.{_≡_};
 ghost use Rattle.hosts.specs.Told.{AllocatesHere, ReleasesHere, ClearsHere};
-ghost use Rattle.plytimber.specs.Host.{failing, AuditSays};
+ghost use Rattle.plytimber.specs.Host.{failing, AuditSays, CreatesHere, LooksUpHere, ListsHere, OccupiedHere, FreeSpaceHere, SizeHere, EmptyHere};
 use audit::Verdict;
+use hosts::told;
 use hosts::values::AtlasHeader;
+use hosts::values::HostArea;
+use hosts::values::HostCount;
+use hosts::values::HostCreated;
+use hosts::values::HostExtent;
 use hosts::values::HostGrant;
+use hosts::values::HostVacancy;
 use hosts::values::header_of;
+use hosts::values::host_header;
+use queries::tell;
 
 // Document 01's answers to a call.
 const DONE: u32 = 0;
@@ -94,4 +102,90 @@ pub extern "C" fn plytimber_clear(
     let cleared = hosts::clear(v, shelves, items);
     *h = cleared.header;
     cleared.answer
+}
+
+// ---- create, which takes no header and returns one
+
+#[no_mangle]
+pub extern "C" fn plytimber_create(
+    shelves: &mut [u16],
+    items: &mut [u16],
+    w: i32,
+    height: i32,
+    align_width: i32,
+    align_height: i32,
+    vertical: i32,
+    columns: i32,
+) -> HostCreated
+    ensures { λ r. ⌜ CreatesHere (now (shelves .entry)) (now (items .entry)) w height «align_width» «align_height» vertical columns r (now (shelves .exit)) (now (items .exit)) ⌝ }
+{
+    let made = create::create(
+        shelves,
+        items,
+        w,
+        height,
+        align_width,
+        align_height,
+        vertical,
+        columns,
+    );
+    let header = host_header(made.header);
+    let answer = made.answer;
+    told::created_told(answer, header)
+}
+
+// ---- the calls that change nothing
+
+#[no_mangle]
+pub extern "C" fn plytimber_look_up(
+    h: AtlasHeader,
+    shelves: &[u16],
+    items: &[u16],
+    row: u16,
+    generation: u16,
+) -> HostGrant
+    ensures { λ r. ⌜ LooksUpHere h (now (shelves .entry)) (now (items .entry)) row generation r ⌝ }
+{
+    told::grant_told(tell::look_up(header_of(h), shelves, items, row, generation))
+}
+
+// Six numbers a record: row, generation, x0, y0, x1, y1.
+#[no_mangle]
+pub extern "C" fn plytimber_list(
+    h: AtlasHeader,
+    shelves: &[u16],
+    items: &[u16],
+    out: &mut [u16],
+) -> HostCount
+    ensures { λ r. ⌜ ListsHere h (now (shelves .entry)) (now (items .entry)) (now (out .entry)) r (now (out .exit)) ⌝ }
+{
+    told::count_told(listing::list::list(header_of(h), shelves, items, out))
+}
+
+#[no_mangle]
+pub extern "C" fn plytimber_occupied(h: AtlasHeader, shelves: &[u16], items: &[u16]) -> HostArea
+    ensures { λ r. ⌜ OccupiedHere h (now (shelves .entry)) (now (items .entry)) r ⌝ }
+{
+    told::area_told(tell::occupied(header_of(h), shelves, items))
+}
+
+#[no_mangle]
+pub extern "C" fn plytimber_free_space(h: AtlasHeader, shelves: &[u16], items: &[u16]) -> HostArea
+    ensures { λ r. ⌜ FreeSpaceHere h (now (shelves .entry)) (now (items .entry)) r ⌝ }
+{
+    told::area_told(tell::free_space(header_of(h), shelves, items))
+}
+
+#[no_mangle]
+pub extern "C" fn plytimber_size(h: AtlasHeader, shelves: &[u16], items: &[u16]) -> HostExtent
+    ensures { λ r. ⌜ SizeHere h (now (shelves .entry)) (now (items .entry)) r ⌝ }
+{
+    told::extent_told(tell::size(header_of(h), shelves, items))
+}
+
+#[no_mangle]
+pub extern "C" fn plytimber_is_empty(h: AtlasHeader, shelves: &[u16], items: &[u16]) -> HostVacancy
+    ensures { λ r. ⌜ EmptyHere h (now (shelves .entry)) (now (items .entry)) r ⌝ }
+{
+    told::vacancy_told(tell::is_empty(header_of(h), shelves, items))
 }
