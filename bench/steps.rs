@@ -20,15 +20,6 @@ struct HostGrant {
 }
 
 #[repr(C)]
-struct HostPlace {
-    answer: u32,
-    x0: u32,
-    y0: u32,
-    x1: u32,
-    y1: u32,
-}
-
-#[repr(C)]
 struct HostCount {
     answer: u32,
     count: u32,
@@ -37,7 +28,7 @@ struct HostCount {
 extern "C" {
     fn bench_allocate(header: *mut Header, shelves: *mut u16, s: usize, items: *mut u16, i: usize, w: i32, height: i32) -> HostGrant;
     fn bench_release(header: *mut Header, shelves: *mut u16, s: usize, items: *mut u16, i: usize, row: u16, generation: u16) -> u32;
-    fn bench_look_up(header: Header, shelves: *const u16, s: usize, items: *const u16, i: usize, row: u16, generation: u16) -> HostPlace;
+    fn bench_look_up(header: Header, shelves: *const u16, s: usize, items: *const u16, i: usize, row: u16, generation: u16) -> HostGrant;
     fn bench_list(header: Header, shelves: *const u16, s: usize, items: *const u16, i: usize, out: *mut u16, o: usize) -> HostCount;
 }
 

@@ -6,10 +6,8 @@ use Rattle.hosts.specs.Values.{headerOf}
 use Rattle.hosts.specs.declared.values.AtlasHeader.{AtlasHeader}
 use Rattle.promises.specs.Prelude.{Allocates, Releases, LooksUp, Lists}
 use Rattle.promises.specs.declared.{answers.Grant.Grant, answers.Reply.Reply, answers.Listing.Listing, answers.Allocated.Allocated, answers.Replied.Replied}
-use Rattle.promises.specs.declared.answers.Grant.the-variants as grant
-use Rattle.promises.specs.declared.answers.Reply.the-variants as reply
-use Rattle.promises.specs.declared.answers.Listing.the-variants as listing
-use Rattle.bench_calls.specs.declared.{HostGrant.HostGrant, HostPlace.HostPlace, HostCount.HostCount}
+use Rattle.hosts.specs.Told.{grantTold, replyTold, countTold}
+use Rattle.hosts.specs.declared.{values.HostGrant.HostGrant, values.HostCount.HostCount}
 
 -- the header in a host's 24 bytes, as twelve numbers: 10 and 11 are the low and the high half of the occupied area
 abbrev pub headerIn : List ℕ → Header
@@ -40,23 +38,6 @@ in-put n h long same =
     let halves : h .occupied % 65536 + h .occupied / 65536 * 65536 ≡ h .occupied = omega arith in
     subst (λ (m : List ℕ). headerIn (headerPut m h) ≡ h) (each-all 12 n long) (rw (same, halves))
 
--- "0 is success", "a refusal returns zeros besides its number"
-abbrev pub grantTold : Grant → HostGrant
-grantTold (grant.Granted l) = record { answer = 0; row = l .row; generation = l .generation; x0 = l .x0; y0 = l .y0; x1 = l .x1; y1 = l .y1 }
-grantTold (grant.Refused n) = record { answer = n; row = 0; generation = 0; x0 = 0; y0 = 0; x1 = 0; y1 = 0 }
-
-abbrev pub replyTold : Reply → ℕ
-replyTold reply.Done = 0
-replyTold (reply.Refused n) = n
-
-abbrev pub lookTold : Grant → HostPlace
-lookTold (grant.Granted l) = record { answer = 0; x0 = l .x0; y0 = l .y0; x1 = l .x1; y1 = l .y1 }
-lookTold (grant.Refused n) = record { answer = n; x0 = 0; y0 = 0; x1 = 0; y1 = 0 }
-
-abbrev pub listTold : Listing → HostCount
-listTold (listing.Listed n) = record { answer = 0; count = n }
-listTold (listing.Refused n) = record { answer = n; count = 0 }
-
 -- each call keeps the public call's promise, and tells its answer
 pub record AllocatesSo (n S I : List ℕ) (w height : ℤ) (r : HostGrant) (n′ S′ I′ : List ℕ) : Type 0 where
   pub said : Allocated
@@ -70,12 +51,12 @@ pub record ReleasesSo (n S I : List ℕ) (row generation : ℕ) (r : ℕ) (n′ 
   pub told : r ≡ replyTold (said .answer)
   pub header : n′ ≡ headerPut n (said .header)
 
-pub record LooksUpSo (h : AtlasHeader) (S I : List ℕ) (row generation : ℕ) (r : HostPlace) : Type 0 where
+pub record LooksUpSo (h : AtlasHeader) (S I : List ℕ) (row generation : ℕ) (r : HostGrant) : Type 0 where
   pub said : Grant
   pub promise : LooksUp (headerOf h) S I row generation said
-  pub told : r ≡ lookTold said
+  pub told : r ≡ grantTold said
 
 pub record ListsSo (h : AtlasHeader) (S I out : List ℕ) (r : HostCount) (out′ : List ℕ) : Type 0 where
   pub said : Listing
   pub promise : Lists (headerOf h) S I out said out′
-  pub told : r ≡ listTold said
+  pub told : r ≡ countTold said

@@ -14,5 +14,5 @@ bench-list-spec =
     record {
       said = listed .list-unaudited .result;
       promise = rw (read .header-of .ensures) at (listed .list-unaudited .ensures);
-      told = c .list-told .ensures;
+      told = c .count-told .ensures;
     }))

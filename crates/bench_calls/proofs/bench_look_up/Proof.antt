@@ -13,5 +13,5 @@ bench-look-up-spec =
     record {
       said = looked .look-up-unaudited .result;
       promise = rw (looked .before .header-of .ensures) at (looked .look-up-unaudited .ensures);
-      told = c .look-told .ensures;
+      told = c .grant-told .ensures;
     }))
