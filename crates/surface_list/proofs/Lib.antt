@@ -1,2 +1,3 @@
+pub mod AsNumbers
 pub mod Laid
 pub mod Outcomes
