@@ -47,7 +47,7 @@ module _ (h : Header) (S I : List ℕ) where
     go true = refl
     go false = refl
 
-  all-rows : (n : ℕ) → liveCount I n ≡ length (rowsListed h S I n)
+  pub all-rows : (n : ℕ) → liveCount I n ≡ length (rowsListed h S I n)
   unfolding rowsListed liveCountFrom liveCount
   all-rows zero = refl
   all-rows (suc n) =
@@ -55,7 +55,7 @@ module _ (h : Header) (S I : List ℕ) where
       rw (length-append, ← all-rows n, ← one-row n) (rw e at (from-last I n 0))
 
   -- more rows list no fewer items
-  no-fewer : (n row : ℕ) → row ≤ n → length (rowsListed h S I row) ≤ length (rowsListed h S I n)
+  pub no-fewer : (n row : ℕ) → row ≤ n → length (rowsListed h S I row) ≤ length (rowsListed h S I n)
   unfolding rowsListed
   no-fewer zero row b = let e : row ≡ 0 = omega arith in rw e (omega arith)
   no-fewer (suc n) row b = go (no-fewer n row) (decLt row (suc n)) where

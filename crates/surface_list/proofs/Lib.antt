@@ -1,0 +1,3 @@
+pub mod AsNumbers
+pub mod Laid
+pub mod Outcomes
