@@ -11,9 +11,13 @@ pub record Form : Type 0 where
   pub room : ℕ
   pub check : List ℕ → List ℕ
 
--- "0-1 block number; 2 form; 3 kind; 4-5 rows; 6-509 data, unused zero": the words of a block before its check. Bytes 2 and 3 are one word.
+-- "0-1 block number; 2 form; 3 kind; 4-5 rows": three words, of which bytes 2 and 3 are one
+abbrev pub heading : Form → (number kind rows : ℕ) → List ℕ
+heading f number kind rows = number ∷ (f .number + 256 * kind) ∷ rows ∷ []
+
+-- "6-509 data, unused zero": the words of a block before its check
 unfoldable pub front : Form → (number kind rows : ℕ) → List ℕ → List ℕ
-front f number kind rows numbers = number ∷ (f .number + 256 * kind) ∷ rows ∷ (numbers ++ replicate (f .room - length numbers) 0)
+front f number kind rows numbers = heading f number kind rows ++ (numbers ++ replicate (f .room - length numbers) 0)
 
 unfoldable pub block : Form → (number kind rows : ℕ) → List ℕ → List ℕ
 unfolding front

@@ -27,4 +27,4 @@ sum-of-spec =
     (λ c. omega arith)
     (λ c. omega arith)
     loop-again
-    (λ c. summed-all (c .before .loop .inv .1) (omega arith)))
+    (λ c. (summed-all (c .before .loop .inv .1) (omega arith), omega arith)))
