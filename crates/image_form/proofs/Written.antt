@@ -1,7 +1,7 @@
 -- A list written over part by part, from its front on: what is written so far, and the rest as it was. Assumes nothing.
-use Rattle.numbers.specs.Library.{ℕ, _+_, _-_, _≤_, _≡_, refl, sym, ap, _∙_, List, [], _++_, append-assoc, append-nil, length, length-append, length-drop, take, drop, arith}
+use Rattle.numbers.specs.Library.{ℕ, zero, suc, _+_, _-_, _≤_, _≡_, refl, sym, ap, _∙_, List, [], _∷_, _++_, append-assoc, append-nil, length, length-append, length-drop, take, drop, arith}
 use lib.ListN.{drop-of-length-le}
-use lib.Seq.{take-at, drop-at, drop-drop}
+use lib.Seq.{take-at, take-take, drop-at, drop-drop}
 
 pub record Written (old front : List ℕ) (at : ℕ) (now : List ℕ) : Type 0 where
   pub long : length front ≡ at
@@ -35,3 +35,10 @@ written-to w v k to e s = rw (← s) (written-next w v k e)
 
 pub written-all : {old front now : List ℕ} {at : ℕ} → Written old front at now → length old ≤ at → now ≡ front
 written-all {old} {front} {now} {at} w b = w .is ∙ ap (λ (l : List ℕ). front ++ l) (drop-of-length-le old {i = at} b) ∙ append-nil front
+
+-- a part of the front of a list is a part of the list
+pub part-take : (m n k : ℕ) (l : List ℕ) → n + m ≤ k → take m (drop n (take k l)) ≡ take m (drop n l)
+part-take m zero k l b = take-take m k l (omega arith)
+part-take m (suc n) zero l b = absurd (omega arith)
+part-take m (suc n) (suc k) [] b = refl
+part-take m (suc n) (suc k) (x ∷ l) b = part-take m n k l (omega arith)
