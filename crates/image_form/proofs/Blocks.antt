@@ -2,19 +2,13 @@
 use Rattle.numbers.specs.Library.{ℕ, zero, suc, _+_, _-_, _*_, _%_, _<_, _≤_, _≡_, refl, sym, ap, _∙_, List, [], _++_, _∷_, append-assoc, length, getD, take, drop, arith}
 use Rattle.numbers.specs.Library.{length-append, length-drop, length-take-le, drop-cons}
 use lib.ListN.{replicate, length-replicate, take-append-drop, drop-of-length-le}
-use lib.Seq.{take-at, drop-at, drop-drop, take-add}
+use lib.Seq.{take-at, drop-drop, take-add}
 use Rattle.image_form.specs.Bytes.{bytesOf, total}
 use Rattle.image_form.specs.Blocks.{heading, front, block}
 use Rattle.image_form.specs.Form1.{form1}
 use Rattle.image_form.proofs.Words.{length-bytes, bytes-append, total-append, total-zeros, zeros-total}
+use Rattle.image_form.proofs.Tables.{same-parts}
 use Rattle.image_form.proofs.Written.{Written, length-written, written-first, written-to, written-all}
-
--- two lists put together of parts that are as long
-pub same-parts : (a b c d : List ℕ) → length a ≡ length c → a ++ b ≡ c ++ d → (a ≡ c) × (b ≡ d)
-same-parts a b c d e s = (
-  sym (take-at a b (length a) refl) ∙ ap (take (length a)) s ∙ take-at c d (length a) (sym e),
-  sym (drop-at a b (length a) refl) ∙ ap (drop (length a)) s ∙ drop-at c d (length a) (sym e),
-)
 
 abbrev head1 : (number kind rows : ℕ) → List ℕ
 head1 number kind rows = number ∷ (1 + 256 * kind) ∷ rows ∷ []
@@ -39,6 +33,10 @@ module _ (number kind rows : ℕ) (numbers : List ℕ) where
   length-block b =
       ap length block-is
       ∙ omega (arith, length-append numbers (replicate (252 - length numbers) 0 ++ (checkOf ∷ [])), length-append (replicate (252 - length numbers) 0) (checkOf ∷ []), length-replicate {A = ℕ} (252 - length numbers) 0)
+
+  -- the data is found again in its place
+  pub data-back : (count : ℕ) → length numbers ≡ count → take count (drop 3 (block form1 number kind rows numbers)) ≡ numbers
+  data-back count e = ap (λ (l : List ℕ). take count (drop 3 l)) block-is ∙ take-at numbers (replicate (252 - length numbers) 0 ++ (checkOf ∷ [])) count e
 
 -- ---- a block's bytes as they are written
 

@@ -23,31 +23,32 @@ unfoldable pub block : Form → (number kind rows : ℕ) → List ℕ → List �
 unfolding front
 block f number kind rows numbers = front f number kind rows numbers ++ f .check (front f number kind rows numbers)
 
+-- the first n of a row of pieces, one after the other
+abbrev pub upTo : (ℕ → List ℕ) → ℕ → List ℕ
+upTo piece zero = []
+upTo piece (suc b) = upTo piece b ++ piece b
+
 -- A kind of blocks that hold rows: its number, how many rows a block has at most, and what a row's numbers are.
 pub record Kind (A : Type 0) : Type 0 where
   pub number : ℕ
   pub most : ℕ
   pub shape : Shape A
 
+-- how many blocks so many rows take
+unfoldable pub blockCount : (most rows : ℕ) → ℕ
+blockCount most rows = (rows + (most - 1)) / most
+
 module _ {A : Type 0} (f : Form) (k : Kind A) where
   -- the rows of block b of the kind: "only a kind's last block may be short"
   abbrev pub rowsOfBlock : List A → ℕ → List A
   rowsOfBlock rs b = take (k .most) (drop (b * k .most) rs)
 
-  abbrev pub rowsBlock : (first : ℕ) → List A → ℕ → List ℕ
+  -- block b of the kind, whose block 0 is block `first` of the image
+  unfoldable pub rowsBlock : (first : ℕ) → List A → ℕ → List ℕ
+  unfolding block
   rowsBlock first rs b = block f (first + b) (k .number) (length (rowsOfBlock rs b)) (gather (k .shape .numbers) (rowsOfBlock rs b))
 
-  -- the first n blocks of the kind, whose block 0 is block `first` of the image
-  unfoldable pub blocksUpTo : (first : ℕ) → List A → (n : ℕ) → List ℕ
-  unfolding block
-  blocksUpTo first rs zero = []
-  blocksUpTo first rs (suc b) = blocksUpTo first rs b ++ rowsBlock first rs b
-
--- how many blocks so many rows take
-unfoldable pub blockCount : (most rows : ℕ) → ℕ
-blockCount most rows = (rows + (most - 1)) / most
-
--- all blocks of a kind
-unfoldable pub blocksOf : {A : Type 0} → Form → Kind A → (first : ℕ) → List A → List ℕ
-unfolding blockCount blocksUpTo
-blocksOf f k first rs = blocksUpTo f k first rs (blockCount (k .most) (length rs))
+  -- all blocks of the kind
+  unfoldable pub blocksOf : (first : ℕ) → List A → List ℕ
+  unfolding rowsBlock blockCount
+  blocksOf first rs = upTo (rowsBlock first rs) (blockCount (k .most) (length rs))

@@ -2,16 +2,17 @@
 use Rattle.numbers.specs.Library.{ℕ, zero, suc, _+_, _-_, _*_, _≤_, _<_, min, _≡_, refl, sym, ap, _∙_, true, List, [], _++_, length, take, drop, arith, suc-mul, add-mul}
 use Rattle.numbers.specs.Library.{add-one, mul-le-mul-right, length-append, length-take, length-drop, length-take-le, decLt}
 use lib.Seq.{drop-drop}
-use native.Mathlib.Nat.{add-sub-cancel-left, min-le-left, min-le-right, min-eq-left, min-eq-right}
+use native.Mathlib.Nat.{mul-assoc, add-sub-cancel-left, min-le-left, min-le-right, min-eq-left, min-eq-right}
 use Rattle.numbers.specs.Prelude.{Decides}
 use Rattle.image_form.specs.Bytes.{bytesOf, wordsOf}
-use Rattle.image_form.specs.Blocks.{block}
+use Rattle.image_form.specs.Blocks.{block, upTo}
 use Rattle.image_form.specs.Form1.{form1}
 use Rattle.image_form.proofs.Words.{length-bytes, bytes-append, length-words, words-take, words-drop}
-use Rattle.image_form.proofs.Written.{Written, written-none, written-to, part-take}
+use Rattle.image_form.proofs.Written.{Written, length-written, written-to, part-take}
+use Rattle.image_form.proofs.Pieces.{length-up-to}
 use Rattle.image_form.proofs.Blocks.{length-block}
 use Rattle.blocks.specs.Right.{BlockRight}
-use Rattle.row_blocks.specs.Layout.{Laid, Rows, rowsIn, numbersHeld, tableBlocks, AllRight, numbersIn}
+use Rattle.row_blocks.specs.Layout.{Laid, Rows, rowsIn, numbersHeld, tableBlock, AllRight, heldIn}
 use Rattle.row_blocks.specs.declared.Layout.{Layout}
 
 module _ (k : Layout) (used b : ℕ) (passed : b * k .most ≤ used) (room : k .most * k .width ≤ 252) where
@@ -56,41 +57,37 @@ part-few table from count c =
 
 -- ---- written
 
-pub length-blocks : (k : Layout) (first used : ℕ) (table : List ℕ) {n : ℕ} → Laid k first used n → (b : ℕ) → b ≤ n → length (tableBlocks k used first table b) ≡ 256 * b
-unfolding tableBlocks numbersHeld
+pub length-blocks : (k : Layout) (first used : ℕ) (table : List ℕ) {n : ℕ} → Laid k first used n → (b : ℕ) → b ≤ n → length (upTo (tableBlock k used first table) b) ≡ 256 * b
+unfolding tableBlock numbersHeld
 length-blocks k first used table l zero c = refl
 length-blocks k first used table l (suc b) c =
     let p : Rows k used b (rowsIn k used b) = place l b c in
     let few : length (take (rowsIn k used b * k .width) (drop (b * k .most * k .width) table)) ≤ 252 =
     omega (arith, p .held, length-take (rowsIn k used b * k .width) (drop (b * k .most * k .width) table), min-le-left (rowsIn k used b * k .width) (length (drop (b * k .most * k .width) table))) in
-    length-append (tableBlocks k used first table b) _
+    length-append (upTo (tableBlock k used first table) b) _
     ∙ omega (arith, length-blocks k first used table l b (omega arith), length-block (first + b) (k .kind) (rowsIn k used b) (take (rowsIn k used b * k .width) (drop (b * k .most * k .width) table)) few)
 
 module _ (k : Layout) (first used : ℕ) (table : List ℕ) {n : ℕ} (l : Laid k first used n) where
   -- the blocks so far
   abbrev pub BlocksWritten : List ℕ → ℕ → List ℕ → Type 0
-  BlocksWritten out₀ b out = Written out₀ (bytesOf (tableBlocks k used first table b)) (b * 512) out
-
-  pub none-written : (out₀ : List ℕ) → BlocksWritten out₀ 0 out₀
-  unfolding tableBlocks bytesOf
-  none-written out₀ = written-none out₀
+  BlocksWritten out₀ b out = Written out₀ (bytesOf (upTo (tableBlock k used first table) b)) (b * 512) out
 
   pub one-written : {out₀ out : List ℕ} (b : ℕ) → b < n → BlocksWritten out₀ b out → (r : ℕ) → r ≡ rowsIn k used b → (v : List ℕ)
       → v ≡ bytesOf (block form1 (first + b) (k .kind) r (take (b * k .most * k .width + r * k .width - b * k .most * k .width) (drop (b * k .most * k .width) table)))
       → BlocksWritten out₀ (b + 1) (take (b * 512) out ++ (v ++ drop (b * 512 + 512 - b * 512) (drop (b * 512) out)))
-  unfolding tableBlocks numbersHeld
+  unfolding tableBlock numbersHeld
   one-written {out₀} {out} b c w r e v is =
       let is′ : v ≡ bytesOf (block form1 (first + b) (k .kind) (rowsIn k used b) (take (rowsIn k used b * k .width) (drop (b * k .most * k .width) table))) =
       is ∙ rw (add-sub-cancel-left, e) in
-      let whole : bytesOf (tableBlocks k used first table (b + 1)) ≡ bytesOf (tableBlocks k used first table b) ++ v =
-      rw (add-one, is′) (bytes-append (tableBlocks k used first table b) _) in
+      let whole : bytesOf (upTo (tableBlock k used first table) (b + 1)) ≡ bytesOf (upTo (tableBlock k used first table) b) ++ v =
+      rw (add-one, is′) (bytes-append (upTo (tableBlock k used first table) b) _) in
       let long : length v ≡ 512 =
       omega (
         arith,
-        length-append (bytesOf (tableBlocks k used first table b)) v,
+        length-append (bytesOf (upTo (tableBlock k used first table) b)) v,
         ap length whole,
-        length-bytes (tableBlocks k used first table b),
-        length-bytes (tableBlocks k used first table (b + 1)),
+        length-bytes (upTo (tableBlock k used first table) b),
+        length-bytes (upTo (tableBlock k used first table) (b + 1)),
         length-blocks k first used table l b (omega arith),
         length-blocks k first used table l (b + 1) (omega arith),
       ) in
@@ -136,55 +133,72 @@ module _ (k : Layout) (used first : ℕ) (image : List ℕ) where
   pub all-right : (n b : ℕ) → b ≤ n → n ≤ b → AllRight k used first b (wordsOf image) → Decides true (AllRight k used first n (wordsOf image))
   all-right n b c d all = let e : b ≡ n = omega arith in record { sound = λ _. rw e at all; complete = λ _. refl }
 
--- ---- copied
+-- ---- the numbers that stand in the blocks
 
-module _ (k : Layout) (used : ℕ) (image : List ℕ) {n : ℕ} (l : Laid k 0 used n) (long : length image ≡ n * 512) where
-  abbrev words : List ℕ
-  words = wordsOf image
-
-  -- the numbers that stand in block b
-  abbrev heldIn : ℕ → List ℕ
-  heldIn b = take (numbersHeld k used b) (drop 3 (take 256 (drop (b * 256) words)))
-
-  length-held : (b : ℕ) → b < n → length (heldIn b) ≡ rowsIn k used b * k .width
-  unfolding numbersHeld
+module _ {k : Layout} {first used n : ℕ} (l : Laid k first used n) (words : List ℕ) (long : length words ≡ n * 256) where
+  pub length-held : (b : ℕ) → b < n → length (heldIn k used words b) ≡ rowsIn k used b * k .width
+  unfolding heldIn numbersHeld
   length-held b c =
       let p : Rows k used b (rowsIn k used b) = place l b c in
-      let a : length (take 256 (drop (b * 256) words)) ≡ 256 = length-take-le 256 (drop (b * 256) words) (omega (arith, length-drop (b * 256) words, length-words image)) in
+      let a : length (take 256 (drop (b * 256) words)) ≡ 256 = length-take-le 256 (drop (b * 256) words) (omega (arith, length-drop (b * 256) words)) in
       length-take-le (rowsIn k used b * k .width) (drop 3 (take 256 (drop (b * 256) words))) (omega (arith, p .held, a, length-drop 3 (take 256 (drop (b * 256) words))))
 
   -- all blocks but the last are full
-  length-numbers : (b : ℕ) → b ≤ n → b * k .most ≤ used → length (numbersIn k used words b) ≡ b * k .most * k .width
-  unfolding numbersIn rowsIn
-  length-numbers zero c p = omega arith
-  length-numbers (suc b) c p =
-      let full : rowsIn k used b ≡ k .most = min-eq-left (omega (arith, suc-mul b (k .most))) in
-      length-append (numbersIn k used words b) (heldIn b)
-      ∙ omega (arith, length-numbers b (omega arith) (omega (arith, suc-mul b (k .most))), length-held b c, ap (λ (m : ℕ). m * k .width) full, ap (λ (m : ℕ). m * k .width) (suc-mul b (k .most)), add-mul (b * k .most) (k .most) (k .width))
+  pub held-full : (b : ℕ) → suc b < n → length (heldIn k used words b) ≡ k .most * k .width
+  unfolding rowsIn
+  held-full b c =
+      let full : rowsIn k used b ≡ k .most = min-eq-left (omega (arith, passed l (suc b) c, suc-mul b (k .most))) in
+      length-held b (omega arith) ∙ ap (λ (m : ℕ). m * k .width) full
 
-  pub numbers-few : (b : ℕ) → b ≤ n → length (numbersIn k used words b) ≤ used * k .width
-  unfolding numbersIn
-  numbers-few zero c = omega arith
-  numbers-few (suc b) c =
-      omega (arith, length-append (numbersIn k used words b) (heldIn b), length-held b c, length-numbers b (omega arith) (passed l b c), place l b c .ends)
+  pub length-met : (b : ℕ) → b < n → length (upTo (heldIn k used words) b) ≡ b * k .most * k .width
+  length-met b c = length-up-to (heldIn k used words) (k .most * k .width) b (λ j d. held-full j (omega arith)) ∙ sym (mul-assoc b (k .most) (k .width))
 
+  pub met-few : (b : ℕ) → b ≤ n → length (upTo (heldIn k used words) b) ≤ used * k .width
+  met-few zero c = omega arith
+  met-few (suc b) c = omega (arith, length-append (upTo (heldIn k used words) b) (heldIn k used words b), length-held b c, length-met b c, place l b c .ends)
+
+  -- and the last has what is left
+  pub met-all : used ≤ n * k .most → length (upTo (heldIn k used words) n) ≡ used * k .width
+  unfolding rowsIn
+  met-all all = go n refl where
+    go : (m : ℕ) → m ≡ n → length (upTo (heldIn k used words) m) ≡ used * k .width
+    go zero e = let z : used ≡ 0 = omega (arith, rw (← e) at all) in rw z (omega arith)
+    go (suc m) e =
+        let c : m < n = omega arith in
+        let rest : rowsIn k used m ≡ used - m * k .most = min-eq-right (omega (arith, suc-mul m (k .most), rw (← e) at all)) in
+        let sum : m * k .most + (used - m * k .most) ≡ used = omega (arith, passed l m c) in
+        length-append (upTo (heldIn k used words) m) (heldIn k used words m)
+        ∙ omega (arith, length-met m c, length-held m c, ap (λ (r : ℕ). r * k .width) rest, add-mul (m * k .most) (used - m * k .most) (k .width), ap (λ (r : ℕ). r * k .width) sum)
+
+-- ---- copied
+
+module _ {k : Layout} {used n : ℕ} (l : Laid k 0 used n) (image : List ℕ) (long : length image ≡ n * 512) where
+  abbrev words : List ℕ
+  words = wordsOf image
+
+  pub words-long : length words ≡ n * 256
+  words-long = length-words image ∙ omega arith
+
+  -- the numbers so far
   module _ (table₀ : List ℕ) where
-    -- the numbers so far
     abbrev pub Copied : ℕ → List ℕ → Type 0
-    Copied b table = Written table₀ (numbersIn k used words b) (length (numbersIn k used words b)) table
+    Copied b table = Written table₀ (upTo (heldIn k used words) b) (length (upTo (heldIn k used words) b)) table
+
+    pub length-copied : {table : List ℕ} (b : ℕ) → b ≤ n → Copied b table → used * k .width ≤ length table₀ → length table ≡ length table₀
+    length-copied b c w fit = omega (arith, length-written w, met-few l words words-long b c)
 
     pub one-copied : {table : List ℕ} (b : ℕ) → b < n → Copied b table → (r : ℕ) → r ≡ rowsIn k used b → (v : List ℕ)
         → v ≡ wordsOf (take (b * 512 + 6 + 2 * (r * k .width) - (b * 512 + 6)) (drop (b * 512 + 6) image))
         → Copied (b + 1) (take (b * k .most * k .width) table ++ (v ++ drop (b * k .most * k .width + r * k .width - b * k .most * k .width) (drop (b * k .most * k .width) table)))
-    unfolding numbersIn numbersHeld
+    unfolding heldIn numbersHeld
     one-copied {table} b c w r e v is =
         let from : b * 512 + 6 ≡ 2 * (b * 256 + 3) = omega arith in
-        let is′ : v ≡ heldIn b =
+        let is′ : v ≡ heldIn k used words b =
         is ∙ rw (add-sub-cancel-left, from, words-take (r * k .width) (drop (2 * (b * 256 + 3)) image), words-drop (b * 256 + 3) image, e)
         (sym (part-take (rowsIn k used b * k .width) 3 256 (drop (b * 256) words) (omega (arith, place l b c .held))
         ∙ ap (take (rowsIn k used b * k .width)) (drop-drop 3 (b * 256) words))) in
-        let at : length (numbersIn k used words b) ≡ b * k .most * k .width = length-numbers b (omega arith) (passed l b c) in
-        let long′ : length v ≡ r * k .width = ap length is′ ∙ length-held b c ∙ ap (λ (m : ℕ). m * k .width) (sym e) in
-        let next : numbersIn k used words (b + 1) ≡ numbersIn k used words b ++ v = rw (add-one, is′) in
+        let at : length (upTo (heldIn k used words) b) ≡ b * k .most * k .width = length-met l words words-long b c in
+        let long′ : length v ≡ r * k .width = ap length is′ ∙ length-held l words words-long b c ∙ ap (λ (m : ℕ). m * k .width) (sym e) in
+        let next : upTo (heldIn k used words) (b + 1) ≡ upTo (heldIn k used words) b ++ v = rw (add-one, is′) in
         rw (next, add-sub-cancel-left (b * k .most * k .width) (r * k .width), ← at, length-append)
-        (written-to w v (r * k .width) (length (numbersIn k used words b) + length v) long′ (ap (λ (m : ℕ). length (numbersIn k used words b) + m) (sym long′)))
+        (written-to w v (r * k .width) (length (upTo (heldIn k used words) b) + length v) long′ (ap (λ (m : ℕ). length (upTo (heldIn k used words) b) + m) (sym long′)))

@@ -1,6 +1,6 @@
 -- The rows of a table as the blocks of a kind, in numbers alone, as code writes and reads them: which numbers of the table stand in which block.
 -- Assumes nothing.
-use Rattle.numbers.specs.Library.{ℕ, zero, suc, _+_, _-_, _*_, _≤_, _<_, min, List, [], _++_, _≡_, take, drop}
+use Rattle.numbers.specs.Library.{ℕ, _+_, _-_, _*_, _≤_, _<_, min, _≡_, List, take, drop}
 use Rattle.image_form.specs.Blocks.{Kind, block}
 use Rattle.image_form.specs.Form1.{form1}
 use Rattle.blocks.specs.Right.{BlockRight}
@@ -36,20 +36,17 @@ module _ (k : Layout) (used : ℕ) where
     pub held : r * k .width ≤ 252
     pub ends : b * k .most * k .width + r * k .width ≤ used * k .width
 
-  -- the first n blocks of a table's rows
-  unfoldable pub tableBlocks : (first : ℕ) → List ℕ → (n : ℕ) → List ℕ
+  -- block b of a table's rows
+  unfoldable pub tableBlock : (first : ℕ) → List ℕ → (b : ℕ) → List ℕ
   unfolding block form1 rowsIn numbersHeld
-  tableBlocks first table zero = []
-  tableBlocks first table (suc b) =
-      tableBlocks first table b ++ block form1 (first + b) (k .kind) (rowsIn b) (take (numbersHeld b) (drop (b * k .most * k .width) table))
+  tableBlock first table b = block form1 (first + b) (k .kind) (rowsIn b) (take (numbersHeld b) (drop (b * k .most * k .width) table))
 
-  -- all of the n blocks are right
+  -- all of n blocks that are met are right
   unfoldable pub AllRight : (first n : ℕ) → List ℕ → Type 0
   unfolding BlockRight rowsIn numbersHeld
   AllRight first n words = (b : ℕ) → b < n → BlockRight (first + b) (k .kind) (rowsIn b) (numbersHeld b) (take 256 (drop (b * 256) words))
 
-  -- the numbers that stand in the first n blocks
-  unfoldable pub numbersIn : List ℕ → (n : ℕ) → List ℕ
+  -- the numbers that stand in block b of those that are met
+  unfoldable pub heldIn : List ℕ → (b : ℕ) → List ℕ
   unfolding rowsIn numbersHeld
-  numbersIn words zero = []
-  numbersIn words (suc b) = numbersIn words b ++ take (numbersHeld b) (drop 3 (take 256 (drop (b * 256) words)))
+  heldIn words b = take (numbersHeld b) (drop 3 (take 256 (drop (b * 256) words)))

@@ -1,12 +1,12 @@
 // The rows of a lent table as the blocks of a kind: written, judged and copied. Where a row stands in a table is known here and in `rows`, and nowhere
 // above.
 ghost use mathlib.Core.Path.{_≡_};
-ghost use mathlib.Core.List.{_++_};
 ghost use Prim.Native.Nat.{_*_, _≤_};
-ghost use lib.ListN.{length, drop};
+ghost use lib.ListN.{length};
 ghost use Rattle.numbers.specs.Prelude.{Decides};
-ghost use Rattle.image_form.specs.Bytes.{bytesOf, wordsOf};
-ghost use Rattle.row_blocks.specs.Layout.{Laid, Rows, tableBlocks, AllRight, numbersIn};
+ghost use Rattle.image_form.specs.Bytes.{bytesOf, wordsOf, over};
+ghost use Rattle.image_form.specs.Blocks.{upTo};
+ghost use Rattle.row_blocks.specs.Layout.{Laid, Rows, tableBlock, AllRight, heldIn};
 use blocks::block;
 
 // A kind of blocks that hold rows: its number, how many rows a block has at most, and how many numbers a row has.
@@ -31,7 +31,7 @@ fn rows_in(k: Layout, used: usize, b: usize) -> usize
 // The used rows go to n blocks, from block `first` of the image on.
 pub fn write_rows(out: &mut [u8], k: Layout, first: usize, used: usize, n: usize, table: &[u16])
     requires { ⌜ Laid k first used n × (length (now out) ≡ n * 512) × (used * k .width ≤ length (now table)) ⌝ }
-    ensures { λ _. ⌜ now (out .exit) ≡ bytesOf (tableBlocks k used first (now (table .entry)) n) ⌝ }
+    ensures { λ _. ⌜ now (out .exit) ≡ bytesOf (upTo (tableBlock k used first (now (table .entry))) n) ⌝ }
 {
     let mut b: usize = 0;
     while b < n {
@@ -79,7 +79,7 @@ pub fn rows_right(image: &[u8], k: Layout, first: usize, used: usize, n: usize) 
 // The rows that stand in n blocks go to the front of a table.
 pub fn copy_rows(table: &mut [u16], image: &[u8], k: Layout, used: usize, n: usize)
     requires { ⌜ Laid k 0 used n × (length (now image) ≡ n * 512) × (used * k .width ≤ length (now table)) ⌝ }
-    ensures { λ _. ⌜ now (table .exit) ≡ numbersIn k used (wordsOf (now (image .entry))) n ++ drop (length (numbersIn k used (wordsOf (now (image .entry))) n)) (now (table .entry)) ⌝ }
+    ensures { λ _. ⌜ now (table .exit) ≡ over (upTo (heldIn k used (wordsOf (now (image .entry)))) n) (now (table .entry)) ⌝ }
 {
     let mut b: usize = 0;
     while b < n {

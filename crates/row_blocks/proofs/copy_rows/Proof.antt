@@ -1,21 +1,18 @@
 -- `copy_rows`: the numbers so far are copied. Assumes nothing.
 use Rattle.numbers.specs.Library.{ℕ, _≤_, _<_, _+_, _*_, _-_, _≡_, sym, ap, _∙_, length, needs, arith}
 use Rattle.image_form.specs.Bytes.{wordsOf}
-use Rattle.image_form.proofs.Written.{Written, length-written, written-none}
-use Rattle.row_blocks.specs.Layout.{numbersIn}
-use Rattle.row_blocks.proofs.Places.{passed, part-long, numbers-few, one-copied}
+use Rattle.image_form.proofs.Written.{Written, written-none}
+use Rattle.row_blocks.specs.Layout.{heldIn}
+use Rattle.image_form.specs.Blocks.{upTo}
+use Rattle.row_blocks.proofs.Places.{passed, part-long, length-copied, one-copied}
 use Rattle.row_blocks.proofs.copy_rows.Statement.{statement}
 use Rattle.row_blocks.proofs.copy_rows.Tie as tie
 
 abbrev Inv-loop : tie.InvT-loop
-Inv-loop table₀ image k used n b₀ table b = (b ≤ n) × Written table₀ (numbersIn k used (wordsOf image) b) (length (numbersIn k used (wordsOf image) b)) table
+Inv-loop table₀ image k used n b₀ table b = (b ≤ n) × Written table₀ (upTo (heldIn k used (wordsOf image)) b) (length (upTo (heldIn k used (wordsOf image)) b)) table
 
 abbrev μ-loop : tie.MeasureT-loop
 μ-loop table₀ image k used n b₀ table b = n - b
-
-loop-holds : tie.Need-loop-holds Inv-loop μ-loop
-unfolding numbersIn
-loop-holds c = (omega arith, written-none _)
 
 rows-in-requires : tie.Need-rows-in-requires Inv-loop μ-loop
 rows-in-requires c κs =
@@ -27,7 +24,7 @@ part-read-words-end : tie.Need-part-read-words-end Inv-loop μ-loop
 part-read-words-end c =
     let turn = c .before .before .before .before .before .before in
     let start = turn .before .before .before in
-    omega (arith, length-written (turn .loop .inv .1), numbers-few (start .args .k) (start .args .used) (start .args .image .now) (start .pre .0) (start .pre .1) (turn .loop .b) (turn .loop .inv .0))
+    omega (arith, length-copied (start .pre .0) _ (start .pre .1) _ (turn .loop .b) (turn .loop .inv .0) (turn .loop .inv .1) (start .pre .2))
 
 read-words-requires : tie.Need-read-words-requires Inv-loop μ-loop
 read-words-requires c κs =
@@ -36,7 +33,7 @@ read-words-requires c κs =
     let start = turn .before .before .before in
     part-long (start .args .image .now) (turn .loop .b * 512 + 6) (2 * (rows .rows-in .result * start .args .k .width)) (omega arith)
     ∙ ap (λ (m : ℕ). 2 * m) (sym (part-long (turn .loop .table) (turn .loop .b * start .args .k .most * start .args .k .width) (rows .rows-in .result * start .args .k .width)
-    (omega (arith, length-written (turn .loop .inv .1), numbers-few (start .args .k) (start .args .used) (start .args .image .now) (start .pre .0) (start .pre .1) (turn .loop .b) (turn .loop .inv .0)))))
+    (omega (arith, length-copied (start .pre .0) _ (start .pre .1) _ (turn .loop .b) (turn .loop .inv .0) (turn .loop .inv .1) (start .pre .2)))))
 
 loop-again : tie.Need-loop-again Inv-loop μ-loop
 loop-again c =
@@ -44,13 +41,13 @@ loop-again c =
     let rows = read .before .before .before .before .before .before .before in
     let turn = rows .before .before in
     let start = turn .before .before .before in
-    (omega arith, one-copied _ _ _ (start .pre .0) (start .pre .1) _ (turn .loop .b) (omega arith) (turn .loop .inv .1) _ (rows .rows-in .ensures .are) _ (read .read-words .ensures))
+    (omega arith, one-copied (start .pre .0) _ (start .pre .1) _ (turn .loop .b) (omega arith) (turn .loop .inv .1) _ (rows .rows-in .ensures .are) _ (read .read-words .ensures))
 
 same-length : tie.Need-same-length Inv-loop μ-loop
 same-length c =
     let turn = c .before in
     let start = turn .before .before .before in
-    omega (arith, length-written (turn .loop .inv .1), numbers-few (start .args .k) (start .args .used) (start .args .image .now) (start .pre .0) (start .pre .1) (turn .loop .b) (turn .loop .inv .0))
+    omega (arith, length-copied (start .pre .0) _ (start .pre .1) _ (turn .loop .b) (turn .loop .inv .0) (turn .loop .inv .1) (start .pre .2))
 
 returns : tie.Need-returns Inv-loop μ-loop
 returns c =
@@ -65,7 +62,7 @@ copy-rows-spec =
     (tie.spec
     Inv-loop
     μ-loop
-    loop-holds
+    (λ c. (omega arith, written-none _))
     rows-in-requires
     (λ c. omega arith)
     (λ c. omega arith)

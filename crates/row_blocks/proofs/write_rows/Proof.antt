@@ -1,22 +1,22 @@
 -- `write_rows`: the blocks so far are written. Assumes nothing.
 use Rattle.numbers.specs.Library.{ℕ, _≤_, _<_, _*_, _-_, _≡_, ap, _∙_, needs, arith}
 use Rattle.image_form.specs.Bytes.{bytesOf}
-use Rattle.image_form.proofs.Written.{Written, length-written, written-all}
-use Rattle.row_blocks.specs.Layout.{tableBlocks}
-use Rattle.row_blocks.proofs.Places.{passed, part-long, part-few, none-written, one-written}
+use Rattle.image_form.proofs.Written.{Written, length-written, written-none, written-all}
+use Rattle.row_blocks.specs.Layout.{tableBlock}
+use Rattle.image_form.specs.Blocks.{upTo}
+use Rattle.row_blocks.proofs.Places.{passed, part-long, part-few, one-written}
 use Rattle.row_blocks.proofs.write_rows.Statement.{statement}
 use Rattle.row_blocks.proofs.write_rows.Tie as tie
 
 abbrev Inv-loop : tie.InvT-loop
-Inv-loop out₀ k first used n table b₀ out b = (b ≤ n) × Written out₀ (bytesOf (tableBlocks k used first table b)) (b * 512) out
+Inv-loop out₀ k first used n table b₀ out b = (b ≤ n) × Written out₀ (bytesOf (upTo (tableBlock k used first table) b)) (b * 512) out
 
 abbrev μ-loop : tie.MeasureT-loop
 μ-loop out₀ k first used n table b₀ out b = n - b
 
 loop-holds : tie.Need-loop-holds Inv-loop μ-loop
-loop-holds c =
-    let start = c .before .before in
-    (omega arith, none-written _ _ _ _ (start .pre .0) _)
+unfolding bytesOf
+loop-holds c = (omega arith, written-none _)
 
 rows-in-requires : tie.Need-rows-in-requires Inv-loop μ-loop
 rows-in-requires c κs =
@@ -54,7 +54,7 @@ returns c =
     let turn = c .before in
     let start = turn .before .before .before in
     let e : turn .loop .b ≡ start .args .n = omega arith in
-    written-all (turn .loop .inv .1) (omega arith) ∙ ap (λ (b : ℕ). bytesOf (tableBlocks (start .args .k) (start .args .used) (start .args .first) (start .args .table .now) b)) e
+    written-all (turn .loop .inv .1) (omega arith) ∙ ap (λ (b : ℕ). bytesOf (upTo (tableBlock (start .args .k) (start .args .used) (start .args .first) (start .args .table .now)) b)) e
 
 pub write-rows-spec : {M : Type 1} → statement M
 write-rows-spec =
