@@ -57,8 +57,8 @@ module _ (bytes : List ℕ) (long : length bytes ≡ 512) where
           let b : 510 - 2 * (3 + count) ≡ 2 * (252 - count) = omega arith in
           rw (a, b) (words-take (252 - count) (drop (2 * (3 + count)) bytes) ∙ ap (take (252 - count)) (words-drop (3 + count) bytes))
 
-      to-data : wordsOf (take (6 + 2 * count) bytes) ≡ take (3 + count) words
-      to-data = let a : 6 + 2 * count ≡ 2 * (3 + count) = omega arith in rw a (words-take (3 + count) bytes)
+      to-data : wordsOf (take (6 + 2 * count - 0) bytes) ≡ take (3 + count) words
+      to-data = let a : 6 + 2 * count - 0 ≡ 2 * (3 + count) = omega arith in rw a (words-take (3 + count) bytes)
 
       pub wrong-heading : (Heading → ⊥) → Decides false Right
       unfolding BlockRight form1
@@ -72,7 +72,7 @@ module _ (bytes : List ℕ) (long : length bytes ≡ 512) where
         unfolding BlockRight form1
         wrong-unused n = refuted (λ r. n (sum-is ∙ right-unused words count many few number kind rows r))
 
-        pub last-of-block : Heading → sum ≡ 0 → (front check : ℕ) → front ≡ total (wordsOf (take (6 + 2 * count) bytes)) → check ≡ getD words 255 0
+        pub last-of-block : Heading → sum ≡ 0 → (front check : ℕ) → front ≡ total (wordsOf (take (6 + 2 * count - 0) bytes)) → check ≡ getD words 255 0
             → Decides (eqb (front % 65535) check) Right
         unfolding BlockRight form1
         last-of-block h z front check f k =

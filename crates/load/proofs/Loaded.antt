@@ -101,12 +101,5 @@ module _ (image : List ℕ) (small : (i : ℕ) → getD image i 0 < 256) (S I : 
             let same-numbers : itemNumbers image h z ≡ numbers items (itemsStanding image small (right .right)) = rw (is, same) (stands .item-numbers) in
             items-copied ∙ ap (λ (n : List ℕ). over n I) same-numbers ∙ sym (stored-over items _ I fit)
 
-        loads : Judged (Passes h S′ I′) (LoadedSo r) (refused 3) (gives h) → Loads image S I r S′ I′
+        pub loads : Judged (Passes h S′ I′) (LoadedSo r) (refused 3) (gives h) → Loads image S I r S′ I′
         loads j = copied h₁ _ _ (right-holds image small (right .right)) (rw is at has) stored-shelves stored-items (rw is at j)
-
-        module _ {test : Bool} (d : Decides test (Passes h S′ I′)) where
-          pub loads-3 : not test ≡ true → LoadedSo r (refused 3) → Loads image S I r S′ I′
-          loads-3 e so = loads (judged.fails (denied d e) so)
-
-          pub loads-0 : not test ≡ false → LoadedSo r (gives h) → Loads image S I r S′ I′
-          loads-0 e so = loads (judged.passes (allowed d e) so)

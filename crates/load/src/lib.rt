@@ -5,7 +5,7 @@ ghost use Rattle.numbers.specs.Prelude.{Decides};
 ghost use Rattle.image_form.specs.Bytes.{wordsOf, over};
 ghost use Rattle.image_sizes.specs.Sizes.{SizesOf};
 ghost use Rattle.image_promises.specs.Promises.{HasRows, LoadedSo, Loads};
-ghost use Rattle.rules.specs.Prelude.{refused};
+ghost use Rattle.rules.specs.Prelude.{Passes, refused, gives, Judged};
 ghost use Rattle.load.specs.Right.{headerIn, RowsRight, ImageRight, shelfNumbers, itemNumbers};
 use blocks::block;
 use image_sizes::Sizes;
@@ -137,6 +137,23 @@ fn refused(number: u16) -> Replied
     }
 }
 
+// The copied rows are audited: the atlas, or 3 and the all-zero header.
+fn audited(h: Header, shelves: &[u16], items: &[u16]) -> Replied
+    ensures { λ r. ⌜ Judged (Passes h (now (shelves .entry)) (now (items .entry))) (LoadedSo r) (refused 3) (gives h) ⌝ }
+{
+    let none = header::no_header();
+    if !audit::passes(h, shelves, items) {
+        return Replied {
+            answer: Reply::Refused(refusal::AUDIT),
+            header: none,
+        };
+    }
+    Replied {
+        answer: Reply::Done,
+        header: h,
+    }
+}
+
 // The atlas of an image in these tables: its header, or 9, 7 or 3 with the all-zero header. Where 3 is the answer the rows are copied, and stay.
 pub fn load(image: &[u8], shelves: &mut [u16], items: &mut [u16]) -> Replied
     ensures { λ r. ⌜ Loads (now (image .entry)) (now (shelves .entry)) (now (items .entry)) r (now (shelves .exit)) (now (items .exit)) ⌝ }
@@ -150,11 +167,5 @@ pub fn load(image: &[u8], shelves: &mut [u16], items: &mut [u16]) -> Replied
     }
     let z = image_sizes::sizes_of(h);
     copy_rows(image, h, z, shelves, items);
-    if !audit::passes(h, shelves, items) {
-        return refused(refusal::AUDIT);
-    }
-    Replied {
-        answer: Reply::Done,
-        header: h,
-    }
+    audited(h, shelves, items)
 }

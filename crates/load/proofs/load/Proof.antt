@@ -1,10 +1,7 @@
 -- `load`: 9, then 7, then the rows copied; 3 or the atlas. Assumes nothing.
-use Rattle.numbers.specs.Library.{refl, needs, arith}
+use Rattle.numbers.specs.Library.{needs, arith}
 use Rattle.numbers.specs.Prelude.{denied, allowed}
-use Rattle.rules.specs.Prelude.{mapped}
-use Rattle.promises.specs.Answers.{replySays, replyNumbers}
-use Rattle.image_promises.specs.Promises.{loadNumbers, headerAfter}
-use Rattle.load.proofs.Loaded.{first-there, loads-9, loads-7, ends-there, loads-3, loads-0}
+use Rattle.load.proofs.Loaded.{first-there, ends-there, loads-9, loads-7, loads}
 use Rattle.load.proofs.load.Statement.{statement}
 use Rattle.load.proofs.load.Tie as tie
 
@@ -47,9 +44,7 @@ copy-rows-requires c κs =
 
 returns-3 : tie.Need-returns-3
 returns-3 c =
-    let failed = c .before in
-    let audited = failed .before in
-    let shelved = audited .before .before .before .before .before .before .before in
+    let shelved = c .before .before .before .before .before .before .before in
     let sized = shelved .before .before .before in
     let fits = sized .before in
     let counted = fits .before in
@@ -58,24 +53,8 @@ returns-3 c =
     let judged = right .before in
     let given = judged .before .before .before in
     let start = given .before in
-    loads-3 (start .args .image .now) (λ i. omega (arith, given .shared-slice-known .given i)) _ _ _ (allowed (judged .image-right .ensures) (right .if1 .left)) (read .header-in .ensures) (allowed (counted .has-rows .ensures) (fits .if2 .left)) (sized .sizes-of .ensures) _ _
-    (shelved .copy-rows .ensures .0) (shelved .copy-rows .ensures .1) (audited .passes .ensures) (failed .if3 .taken) (c .refused3 .ensures)
-
-returns-4 : tie.Need-returns-4
-unfolding mapped replySays replyNumbers loadNumbers headerAfter
-returns-4 c =
-    let audited = c .before in
-    let shelved = audited .before .before .before .before .before .before .before in
-    let sized = shelved .before .before .before in
-    let fits = sized .before in
-    let counted = fits .before in
-    let read = counted .before .before .before in
-    let right = read .before .before in
-    let judged = right .before in
-    let given = judged .before .before .before in
-    let start = given .before in
-    loads-0 (start .args .image .now) (λ i. omega (arith, given .shared-slice-known .given i)) _ _ _ (allowed (judged .image-right .ensures) (right .if1 .left)) (read .header-in .ensures) (allowed (counted .has-rows .ensures) (fits .if2 .left)) (sized .sizes-of .ensures) _ _
-    (shelved .copy-rows .ensures .0) (shelved .copy-rows .ensures .1) (audited .passes .ensures) (c .if3 .left) (record { says = refl; numbers = refl; header = refl })
+    loads (start .args .image .now) (λ i. omega (arith, given .shared-slice-known .given i)) _ _ _ (allowed (judged .image-right .ensures) (right .if1 .left)) (read .header-in .ensures) (allowed (counted .has-rows .ensures) (fits .if2 .left)) (sized .sizes-of .ensures) _ _
+    (shelved .copy-rows .ensures .0) (shelved .copy-rows .ensures .1) (c .audited .ensures)
 
 pub load-spec : {M : Type 1} → statement M
 load-spec =
@@ -96,10 +75,6 @@ load-spec =
     (λ c κs. search needs)
     copy-rows-requires
     (λ c κs. search needs)
-    (λ c κs. search needs)
     (λ c. search needs)
     (λ c. search needs)
-    returns-3
-    (λ c. search needs)
-    (λ c. search needs)
-    returns-4)
+    returns-3)

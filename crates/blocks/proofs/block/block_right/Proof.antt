@@ -1,6 +1,5 @@
 -- `block_right`: the heading, nothing but zeros after the data, and the check. Assumes nothing.
 use Rattle.numbers.specs.Library.{needs}
-use native.Mathlib.Nat.{sub-zero}
 use Rattle.numbers.specs.Prelude.{denied, allowed}
 use Rattle.blocks.proofs.Judged.{wrong-heading, wrong-unused, last-of-block}
 use Rattle.blocks.proofs.block.block_right.Statement.{statement}
@@ -24,7 +23,7 @@ returns-3 c =
     let headed = unused .before .before in
     let start = headed .before .before .before in
     last-of-block _ (start .pre .0) _ _ _ _ (start .pre .2) _ (unused .sum-of-words .ensures)
-    (allowed (headed .before .heading-right .ensures) (headed .if1 .left)) (zero .if2 .left) _ _ (rw sub-zero at (front .sum-of-words2 .ensures)) (c .word .ensures)
+    (allowed (headed .before .heading-right .ensures) (headed .if1 .left)) (zero .if2 .left) _ _ (front .sum-of-words2 .ensures) (c .word .ensures)
 
 pub block-right-spec : {M : Type 1} → statement M
 block-right-spec =
