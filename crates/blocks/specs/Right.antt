@@ -1,0 +1,9 @@
+-- What is asked of the words of a block that is met. Assumes nothing.
+use Rattle.numbers.specs.Library.{ℕ, _≡_, List, take, drop}
+use Rattle.image_form.specs.Blocks.{block}
+use Rattle.image_form.specs.Form1.{form1}
+
+-- they are those of the block with this heading and the first `count` words of the data that stand in them
+unfoldable pub BlockRight : (number kind rows count : ℕ) → List ℕ → Type 0
+unfolding block form1
+BlockRight number kind rows count words = words ≡ block form1 number kind rows (take count (drop 3 words))

@@ -1,0 +1,68 @@
+// One block of saved form 1, over 512 lent bytes.
+ghost use mathlib.Core.Path.{_≡_};
+ghost use Prim.Native.Nat.{_+_, _%_, _<_, _≤_};
+ghost use mathlib.Core.List.{[], _∷_};
+ghost use lib.ListN.{length, take, drop};
+ghost use Rattle.numbers.specs.Prelude.{Decides};
+ghost use Rattle.image_form.specs.Bytes.{bytesOf, wordsOf, total};
+ghost use Rattle.image_form.specs.Blocks.{heading, block};
+ghost use Rattle.image_form.specs.Form1.{form1};
+ghost use Rattle.blocks.specs.Right.{BlockRight};
+
+// The three words in front: the block's number, the form with the kind above it, and the rows.
+fn heading(number: u16, kind: u16, rows: u16) -> [u16; 3]
+    requires { ⌜ kind < 256 ⌝ }
+    ensures { λ r. ⌜ r ≡ heading form1 number kind rows ⌝ }
+{
+    [number, 1 + 256 * kind, rows]
+}
+
+// The check, without the unused words: they are zero.
+fn check_of(front: &[u16; 3], numbers: &[u16]) -> [u16; 1]
+    requires { ⌜ length (now numbers) ≤ 252 ⌝ }
+    ensures { λ r. ⌜ r ≡ ((total (now (front .entry)) + total (now (numbers .entry))) % 65535) ∷ [] ⌝ }
+{
+    [((words::sum_of(front) + words::sum_of(numbers)) % 65535) as u16]
+}
+
+pub fn write_block(out: &mut [u8], number: u16, kind: u16, rows: u16, numbers: &[u16])
+    requires { ⌜ (length (now out) ≡ 512) × (length (now numbers) ≤ 252) × (kind < 256) ⌝ }
+    ensures { λ _. ⌜ now (out .exit) ≡ bytesOf (block form1 number kind rows (now (numbers .entry))) ⌝ }
+{
+    let front = heading(number, kind, rows);
+    let check = check_of(&front, numbers);
+    let end = 6 + 2 * numbers.len();
+    words::write_words(&mut out[0..6], &front);
+    words::write_words(&mut out[6..end], numbers);
+    words::write_zeros(&mut out[end..510]);
+    words::write_words(&mut out[510..512], &check);
+}
+
+// Whether the three words in front are these.
+fn heading_right(block: &[u8], number: u16, kind: u16, rows: u16) -> bool
+    requires { ⌜ (length (now block) ≡ 512) × (kind < 256) ⌝ }
+    ensures { λ r. ⌜ Decides r (take 3 (wordsOf (now (block .entry))) ≡ heading form1 number kind rows) ⌝ }
+{
+    if words::word(block, 0) != number {
+        return false;
+    }
+    if words::word(block, 1) != 1 + 256 * kind {
+        return false;
+    }
+    words::word(block, 2) == rows
+}
+
+// Whether this is the block with that heading and with the first `count` words of its data, all others of them zero.
+pub fn block_right(block: &[u8], number: u16, kind: u16, rows: u16, count: usize) -> bool
+    requires { ⌜ (length (now block) ≡ 512) × (kind < 256) × (count ≤ 252) ⌝ }
+    ensures { λ r. ⌜ Decides r (BlockRight number kind rows count (wordsOf (now (block .entry)))) ⌝ }
+{
+    if !heading_right(block, number, kind, rows) {
+        return false;
+    }
+    let end = 6 + 2 * count;
+    if words::sum_of_words(&block[end..510]) != 0 {
+        return false;
+    }
+    words::sum_of_words(&block[0..end]) % 65535 == words::word(block, 255) as u32
+}

@@ -1,0 +1,5 @@
+pub mod Words
+pub mod Written
+pub mod Pieces
+pub mod Tables
+pub mod Blocks

@@ -1,0 +1,4 @@
+pub mod Bytes
+pub mod Blocks
+pub mod Form1
+pub mod Tables

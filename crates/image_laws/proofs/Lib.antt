@@ -1,0 +1,3 @@
+pub mod AnySize
+pub mod Outcomes
+pub mod RoundTrips

@@ -1,0 +1,1 @@
+// What follows from the promises of save and load. No code.
