@@ -71,6 +71,20 @@ pub struct HostVacancy {
     pub vacant: u32,
 }
 
+// To save: how many bytes the image has.
+#[repr(C)]
+pub struct HostSaved {
+    pub answer: u32,
+    pub length: u32,
+}
+
+// To load: the header of the loaded atlas; all zero where it is refused.
+#[repr(C)]
+pub struct HostLoaded {
+    pub answer: u32,
+    pub header: AtlasHeader,
+}
+
 pub fn header_of(h: AtlasHeader) -> Header
     ensures { λ r. ⌜ r ≡ headerOf h ⌝ }
 {

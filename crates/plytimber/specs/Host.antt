@@ -5,10 +5,14 @@ use Rattle.audit.specs.declared.Verdict.{Verdict}
 use Rattle.audit.specs.declared.Verdict.the-variants.{Passes, Rule1, Rule2, Rule3, Rules5To7}
 use Rattle.promises.specs.Prelude.{Creates, LooksUp, TellsOccupied, TellsFreeSpace, TellsSize, TellsEmpty, Lists}
 use Rattle.promises.specs.declared.{answers.Creation.Creation, answers.Grant.Grant, answers.Listing.Listing, answers.Area.Area, answers.Extent.Extent, answers.Vacancy.Vacancy}
+use Rattle.promises.specs.declared.answers.Reply.{Reply}
+use Rattle.image_promises.specs.Promises.{Saves, Loads}
+use Rattle.image_promises.specs.declared.answers.Saving.{Saving}
+use Rattle.image_promises.specs.declared.answers.Saving.the-variants as saving
 use Rattle.hosts.specs.Values.{headerOf}
-use Rattle.hosts.specs.Told.{createdTold, grantTold, countTold, areaTold, extentTold, vacancyTold}
+use Rattle.hosts.specs.Told.{replyTold, createdTold, grantTold, countTold, areaTold, extentTold, vacancyTold}
 use Rattle.hosts.specs.declared.{values.HostCreated.HostCreated, values.HostGrant.HostGrant, values.HostCount.HostCount, values.HostArea.HostArea}
-use Rattle.hosts.specs.declared.{values.HostExtent.HostExtent, values.HostVacancy.HostVacancy}
+use Rattle.hosts.specs.declared.{values.HostExtent.HostExtent, values.HostVacancy.HostVacancy, values.HostSaved.HostSaved, values.HostLoaded.HostLoaded}
 use Rattle.hosts.specs.declared.values.AtlasHeader.{AtlasHeader}
 use Rattle.plytimber.specs.declared.AuditAnswer.{AuditAnswer}
 
@@ -71,3 +75,19 @@ pub record EmptyHere (h : AtlasHeader) (S I : List ℕ) (r : HostVacancy) : Type
   pub said : Vacancy
   pub promise : TellsEmpty (headerOf h) S I said
   pub told : r ≡ vacancyTold said
+
+-- ---- the saved form
+
+abbrev pub savedTold : Saving → HostSaved
+savedTold (saving.Saved n) = record { answer = 0; length = n }
+savedTold (saving.Refused n) = record { answer = n; length = 0 }
+
+pub record SavesHere (h : AtlasHeader) (S I out : List ℕ) (r : HostSaved) (out′ : List ℕ) : Type 0 where
+  pub said : Saving
+  pub promise : Saves (headerOf h) S I out said out′
+  pub told : r ≡ savedTold said
+
+pub record LoadsHere (image S I : List ℕ) (r : HostLoaded) (S′ I′ : List ℕ) : Type 0 where
+  pub said : Reply
+  pub promise : Loads image S I (record { answer = said; header = headerOf (r .header) }) S′ I′
+  pub told : r .answer ≡ replyTold said

@@ -1,7 +1,7 @@
 // What a host in C or Rust links: the calls as exported functions, over numbers, lent tables and plain structs.
 ghost use mathlib.Core.Path.{_≡_};
 ghost use Rattle.hosts.specs.Told.{AllocatesHere, ReleasesHere, ClearsHere};
-ghost use Rattle.plytimber.specs.Host.{failing, AuditSays, CreatesHere, LooksUpHere, ListsHere, OccupiedHere, FreeSpaceHere, SizeHere, EmptyHere};
+ghost use Rattle.plytimber.specs.Host.{failing, AuditSays, CreatesHere, LooksUpHere, ListsHere, OccupiedHere, FreeSpaceHere, SizeHere, EmptyHere, savedTold, SavesHere, LoadsHere};
 use audit::Verdict;
 use hosts::told;
 use hosts::values::AtlasHeader;
@@ -10,9 +10,12 @@ use hosts::values::HostCount;
 use hosts::values::HostCreated;
 use hosts::values::HostExtent;
 use hosts::values::HostGrant;
+use hosts::values::HostLoaded;
+use hosts::values::HostSaved;
 use hosts::values::HostVacancy;
 use hosts::values::header_of;
 use hosts::values::host_header;
+use image_promises::answers::Saving;
 use queries::tell;
 
 // Document 01's answers to a call.
@@ -188,4 +191,50 @@ pub extern "C" fn plytimber_is_empty(h: AtlasHeader, shelves: &[u16], items: &[u
     ensures { λ r. ⌜ EmptyHere h (now (shelves .entry)) (now (items .entry)) r ⌝ }
 {
     told::vacancy_told(tell::is_empty(header_of(h), shelves, items))
+}
+
+// ---- the saved form
+
+fn saved_told(answer: Saving) -> HostSaved
+    ensures { λ r. ⌜ r ≡ savedTold answer ⌝ }
+{
+    match answer {
+        Saving::Saved(n) => HostSaved {
+            answer: 0,
+            length: n,
+        },
+        Saving::Refused(n) => HostSaved {
+            answer: n as u32,
+            length: 0,
+        },
+    }
+}
+
+#[no_mangle]
+pub extern "C" fn plytimber_save(
+    h: AtlasHeader,
+    shelves: &[u16],
+    items: &[u16],
+    out: &mut [u8],
+) -> HostSaved
+    ensures { λ r. ⌜ SavesHere h (now (shelves .entry)) (now (items .entry)) (now (out .entry)) r (now (out .exit)) ⌝ }
+{
+    saved_told(save::save(header_of(h), shelves, items, out))
+}
+
+#[no_mangle]
+pub extern "C" fn plytimber_load(
+    image: &[u8],
+    shelves: &mut [u16],
+    items: &mut [u16],
+) -> HostLoaded
+    ensures { λ r. ⌜ LoadsHere (now (image .entry)) (now (shelves .entry)) (now (items .entry)) r (now (shelves .exit)) (now (items .exit)) ⌝ }
+{
+    let loaded = load::load(image, shelves, items);
+    let header = host_header(loaded.header);
+    let answer = loaded.answer;
+    HostLoaded {
+        answer: told::reply_told(answer),
+        header,
+    }
 }
