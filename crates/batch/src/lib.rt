@@ -3,15 +3,13 @@ ghost use mathlib.Core.Path.{_≡_};
 ghost use Prim.Native.Nat.{_≤_};
 ghost use Rattle.rows.specs.Prelude.{rows};
 ghost use Rattle.rules.specs.Prelude.{Passes};
-ghost use Rattle.batch.specs.Asked.{askings, tolds};
-ghost use Rattle.batch.specs.Batch.{ServesFirst, Batches};
-use crate::values::Batched;
+ghost use Rattle.batch_rules.specs.Asked.{askings, tolds};
+ghost use Rattle.batch_rules.specs.Batch.{ServesFirst, Batches};
+use batch_parts::lists;
+use batch_parts::serve;
+use batch_rules::values::Batched;
 use numbers::refusal;
 use rows::header::Header;
-
-pub mod lists;
-pub mod serve;
-pub mod values;
 
 // The first n requests, in their order: each on what the one before it left.
 fn serve_all(

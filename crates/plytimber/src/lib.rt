@@ -223,11 +223,7 @@ pub extern "C" fn plytimber_save(
 }
 
 #[no_mangle]
-pub extern "C" fn plytimber_load(
-    image: &[u8],
-    shelves: &mut [u16],
-    items: &mut [u16],
-) -> HostLoaded
+pub extern "C" fn plytimber_load(image: &[u8], shelves: &mut [u16], items: &mut [u16]) -> HostLoaded
     ensures { λ r. ⌜ LoadsHere (now (image .entry)) (now (shelves .entry)) (now (items .entry)) r (now (shelves .exit)) (now (items .exit)) ⌝ }
 {
     let loaded = load::load(image, shelves, items);

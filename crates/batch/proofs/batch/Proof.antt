@@ -1,6 +1,6 @@
 -- `batch`: 3, then 10, then the requests. Assumes nothing.
 use Rattle.numbers.specs.Library.{needs}
-use Rattle.batch.proofs.Batching.{answers-3, answers-10, serve-all-asks, answers-all}
+use Rattle.batch_rules.proofs.Batching.{answers-3, answers-10, serve-all-asks, answers-all}
 use Rattle.batch.proofs.batch.Statement.{statement}
 use Rattle.batch.proofs.batch.Tie as tie
 

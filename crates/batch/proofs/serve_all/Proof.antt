@@ -1,8 +1,8 @@
 -- `serve_all`: the invariant says what stands before request k, and the measure is how many are left. Assumes nothing.
 use Rattle.numbers.specs.Library.{_-_, _≡_, arith, ap, _∙_, length}
 use Rattle.rows.specs.Prelude.{rows-few}
-use Rattle.batch.specs.Asked.{askings}
-use Rattle.batch.proofs.Loop.{AtRequest, before-first, has-place, next-request, answers-long}
+use Rattle.batch_rules.specs.Asked.{askings}
+use Rattle.batch_rules.proofs.Loop.{AtRequest, before-first, has-place, next-request, answers-long}
 use Rattle.batch.proofs.serve_all.Statement.{statement}
 use Rattle.batch.proofs.serve_all.Tie as tie
 
