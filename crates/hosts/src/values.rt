@@ -85,6 +85,14 @@ pub struct HostLoaded {
     pub header: AtlasHeader,
 }
 
+// To a batch: how many requests were answered, and the header after them.
+#[repr(C)]
+pub struct HostBatched {
+    pub answer: u32,
+    pub count: u32,
+    pub header: AtlasHeader,
+}
+
 pub fn header_of(h: AtlasHeader) -> Header
     ensures { λ r. ⌜ r ≡ headerOf h ⌝ }
 {

@@ -9,10 +9,12 @@ use Rattle.promises.specs.declared.answers.Reply.{Reply}
 use Rattle.image_promises.specs.Promises.{Saves, Loads}
 use Rattle.image_promises.specs.declared.answers.Saving.{Saving}
 use Rattle.image_promises.specs.declared.answers.Saving.the-variants as saving
-use Rattle.hosts.specs.Values.{headerOf}
+use Rattle.batch_rules.specs.Batch.{Batches}
+use Rattle.batch_rules.specs.declared.values.Batched.{Batched}
+use Rattle.hosts.specs.Values.{headerOf, hostHeader}
 use Rattle.hosts.specs.Told.{replyTold, createdTold, grantTold, countTold, areaTold, extentTold, vacancyTold}
 use Rattle.hosts.specs.declared.{values.HostCreated.HostCreated, values.HostGrant.HostGrant, values.HostCount.HostCount, values.HostArea.HostArea}
-use Rattle.hosts.specs.declared.{values.HostExtent.HostExtent, values.HostVacancy.HostVacancy, values.HostSaved.HostSaved, values.HostLoaded.HostLoaded}
+use Rattle.hosts.specs.declared.{values.HostExtent.HostExtent, values.HostVacancy.HostVacancy, values.HostSaved.HostSaved, values.HostLoaded.HostLoaded, values.HostBatched.HostBatched}
 use Rattle.hosts.specs.declared.values.AtlasHeader.{AtlasHeader}
 use Rattle.plytimber.specs.declared.AuditAnswer.{AuditAnswer}
 
@@ -91,3 +93,10 @@ pub record LoadsHere (image S I : List ℕ) (r : HostLoaded) (S′ I′ : List �
   pub said : Reply
   pub promise : Loads image S I (record { answer = said; header = headerOf (r .header) }) S′ I′
   pub told : r .answer ≡ replyTold said
+
+-- ---- a batch
+
+pub record BatchesHere (h : AtlasHeader) (S I l out : List ℕ) (r : HostBatched) (S′ I′ out′ : List ℕ) : Type 0 where
+  pub said : Batched
+  pub promise : Batches (headerOf h) S I l out said S′ I′ out′
+  pub told : r ≡ record { answer = said .answer; count = said .count; header = hostHeader (said .header) }

@@ -1,11 +1,12 @@
 // What a host in C or Rust links: the calls as exported functions, over numbers, lent tables and plain structs.
 ghost use mathlib.Core.Path.{_≡_};
 ghost use Rattle.hosts.specs.Told.{AllocatesHere, ReleasesHere, ClearsHere};
-ghost use Rattle.plytimber.specs.Host.{failing, AuditSays, CreatesHere, LooksUpHere, ListsHere, OccupiedHere, FreeSpaceHere, SizeHere, EmptyHere, savedTold, SavesHere, LoadsHere};
+ghost use Rattle.plytimber.specs.Host.{failing, AuditSays, CreatesHere, LooksUpHere, ListsHere, OccupiedHere, FreeSpaceHere, SizeHere, EmptyHere, savedTold, SavesHere, LoadsHere, BatchesHere};
 use audit::Verdict;
 use hosts::told;
 use hosts::values::AtlasHeader;
 use hosts::values::HostArea;
+use hosts::values::HostBatched;
 use hosts::values::HostCount;
 use hosts::values::HostCreated;
 use hosts::values::HostExtent;
@@ -231,6 +232,28 @@ pub extern "C" fn plytimber_load(image: &[u8], shelves: &mut [u16], items: &mut 
     let answer = loaded.answer;
     HostLoaded {
         answer: told::reply_told(answer),
+        header,
+    }
+}
+
+// ---- beyond document 01: a batch on one audit
+
+// Three numbers a request, seven an answer. The header after the batch is in what it returns.
+#[no_mangle]
+pub extern "C" fn plytimber_batch(
+    h: AtlasHeader,
+    shelves: &mut [u16],
+    items: &mut [u16],
+    requests: &[u16],
+    out: &mut [u16],
+) -> HostBatched
+    ensures { λ r. ⌜ BatchesHere h (now (shelves .entry)) (now (items .entry)) (now (requests .entry)) (now (out .entry)) r (now (shelves .exit)) (now (items .exit)) (now (out .exit)) ⌝ }
+{
+    let served = batch::batch(header_of(h), shelves, items, requests, out);
+    let header = host_header(served.header);
+    HostBatched {
+        answer: served.answer as u32,
+        count: served.count as u32,
         header,
     }
 }
