@@ -28,7 +28,7 @@ static const char *const names[KINDS] = {"create", "allocate", "release", "look-
 
 /* ---- what went wrong, and where */
 
-static uint64_t seed, wanted, calls, counts[KINDS][12], rules[8], on_damaged, on_random;
+static uint64_t seed, wanted, calls, counts[KINDS][12], rules[8], on_damaged, on_random, on_short, on_null, on_large;
 static call_kind now;
 
 static void fail(const char *what) {
@@ -215,6 +215,8 @@ static plytimber_header header_before(void) { return *(plytimber_header *)(heade
 /* After every call: nothing outside is touched, a refusal changes nothing, what passed passes, numbers past the used rows stay. */
 static void after(uint32_t answer, uint32_t expected, plytimber_verdict verdict) {
     look_again(answer);
+    on_null += at(shelf_part) == NULL || at(item_part) == NULL || (now == LIST && at(list_part) == NULL);
+    on_large += shelf_part.in == &shelf_rooms[2];
     calls++;
     hold(answer == expected, "another answer than document 01's");
     counts[now][answer]++;
@@ -478,7 +480,7 @@ static void on_sound_tables(int size) {
     int32_t n[6];
     any_create(size, n);
     if (do_create(n).answer) return;
-    for (uint64_t turns = 1 + below(size == 0 ? 200 : 60); turns > 0 && calls < wanted; turns--) {
+    for (uint64_t turns = 1 + below(size == 0 ? 200 : size == 1 ? 600 : 60); turns > 0 && calls < wanted; turns--) {
         plytimber_verdict verdict = {0, 0};
         any_call(verdict);
         if (below(6) == 0) {
@@ -499,7 +501,9 @@ static void on_sound_tables(int size) {
                 save();
                 p->bytes = used - cut;
                 p->at = memmove(p->in->page + p->in->bytes - p->bytes, p->at, p->bytes);
+                uint64_t from = calls;
                 any_call(plytimber_audit(*header(), TABLES));
+                on_short += calls - from;
                 *p = whole;
                 restore();
             }
@@ -555,11 +559,13 @@ int main(int count, char **words) {
     }
     while (calls < wanted) {
         uint64_t choice = below(20000);
-        int size = choice < 1 ? 2 : choice < 40 ? 1 : 0;
+        int size = choice < 30 ? 2 : choice < 150 ? 1 : 0;
         if (below(6)) on_random_tables(size);
         else on_sound_tables(size);
     }
-    printf("%llu calls, seed %llu: %llu on tables with one number changed, %llu on random tables\n", (unsigned long long)calls, (unsigned long long)seed, (unsigned long long)on_damaged, (unsigned long long)on_random);
+    printf("%llu calls, seed %llu, all as they must be\n", (unsigned long long)calls, (unsigned long long)seed);
+    printf("of them %llu on tables with one number changed, %llu on random tables, %llu on tables shorter than the used rows, %llu with a NULL of length 0, %llu on tables of up to 65540 rows\n",
+           (unsigned long long)on_damaged, (unsigned long long)on_random, (unsigned long long)on_short, (unsigned long long)on_null, (unsigned long long)on_large);
     printf("%-11s", "answer");
     for (int k = 0; k <= 10; k++) {
         if (k != 9) printf("%10d", k);

@@ -1,5 +1,5 @@
 /* The library with one fault, WRONG, so that hosts/test can see that fuzz.c finds it: each function here stands before the library's own (--wrap of
- * the linker). From 20 on only valgrind can tell. */
+ * the linker). From 30 on only valgrind can tell. */
 #include "c/plytimber.h"
 
 #define SHELVES uint16_t *shelves, size_t s
@@ -9,6 +9,7 @@ static volatile uint16_t read_here;
 
 plytimber_created __real_plytimber_create(SHELVES, ITEMS, int32_t w, int32_t h, int32_t aw, int32_t ah, int32_t vertical, int32_t columns);
 plytimber_created __wrap_plytimber_create(SHELVES, ITEMS, int32_t w, int32_t h, int32_t aw, int32_t ah, int32_t vertical, int32_t columns) {
+    if (WRONG == 32 && s > 0 && shelves[0] == 7) read_here = 1;                /* reads a table that is yet to be written */
     plytimber_created told = __real_plytimber_create(shelves, s, items, i, w, h, aw, ah, vertical, columns);
     if (WRONG == 1 && told.answer != 0) told.header.free_items = 65535;        /* a refused create gives a header that is not all zero */
     if (WRONG == 2 && told.answer == 7 && s > 0) shelves[0] ^= 1;              /* a refusal changes a table */
@@ -17,6 +18,8 @@ plytimber_created __wrap_plytimber_create(SHELVES, ITEMS, int32_t w, int32_t h, 
 
 plytimber_grant __real_plytimber_allocate(plytimber_header *header, SHELVES, ITEMS, int32_t w, int32_t h);
 plytimber_grant __wrap_plytimber_allocate(plytimber_header *header, SHELVES, ITEMS, int32_t w, int32_t h) {
+    if (WRONG == 20 && plytimber_audit(*header, shelves, s, items, i).answer == 0 && header->occupied == 0 && header->align_width == 1 && header->align_height == 1 && w == 1 && h == 1)
+        return (plytimber_grant){7, 0, 0, 0, 0, 0, 0};                         /* 7 although rows are left */
     plytimber_grant told = __real_plytimber_allocate(header, shelves, s, items, i, w, h);
     if (WRONG == 3 && told.answer == 0) items[i] = 0;                          /* writes a number past the table */
     if (WRONG == 4 && told.answer == 0) shelves[-1] = 0;                       /* writes a number before the table */
@@ -27,7 +30,7 @@ plytimber_grant __wrap_plytimber_allocate(plytimber_header *header, SHELVES, ITE
     if (WRONG == 9 && told.answer == 0 && i > 9u * header->used_items) items[i - 1] ^= 1; /* writes past the used rows */
     if (WRONG == 10 && told.answer == 7) told.row = 1;                         /* a refusal tells more than its number */
     if (WRONG == 11 && told.answer == 0) ((uint8_t *)header)[24] = 0;          /* writes past the header */
-    if (WRONG == 20 && told.answer == 6 && i > 9u * header->used_items && items[i - 1] == 7) read_here = 1; /* reads past the used rows */
+    if (WRONG == 30 && told.answer == 6 && i > 9u * header->used_items && items[i - 1] == 7) read_here = 1; /* reads past the used rows */
     return told;
 }
 
@@ -42,6 +45,7 @@ uint32_t __wrap_plytimber_release(plytimber_header *header, SHELVES, ITEMS, uint
 
 plytimber_count __real_plytimber_list(plytimber_header header, SHELVES, ITEMS, uint16_t *list, size_t l);
 plytimber_count __wrap_plytimber_list(plytimber_header header, SHELVES, ITEMS, uint16_t *list, size_t l) {
+    if (WRONG == 31 && l > 0 && list[0] == 7) read_here = 1;                   /* reads the list */
     plytimber_count told = __real_plytimber_list(header, shelves, s, items, i, list, l);
     if (WRONG == 15 && told.answer == 0 && l > 6 * told.count) list[6 * told.count] ^= 1; /* writes past the last record */
     if (WRONG == 16 && told.answer == 10 && l > 0) list[0] ^= 1;               /* a refusal writes to the list */
@@ -52,7 +56,6 @@ plytimber_grant __real_plytimber_look_up(plytimber_header header, SHELVES, ITEMS
 plytimber_grant __wrap_plytimber_look_up(plytimber_header header, SHELVES, ITEMS, uint16_t row, uint16_t generation) {
     if (WRONG == 17) read_here = items[i];                                     /* reads a number past the table */
     if (WRONG == 18) read_here = shelves[-1];                                  /* reads a number before the table */
-    if (WRONG == 21 && i > 0) read_here = items[-1];                           /* the same, as only valgrind sees at once */
     return __real_plytimber_look_up(header, shelves, s, items, i, row, generation);
 }
 
