@@ -208,6 +208,108 @@ static uint32_t allocate_answer(int32_t width, int32_t height) {
     return 6;
 }
 
+/* The seven rules of the audit, written once more: 0, or the first that fails, 5 for one of 5 to 7. Rule 4 follows from 2 and 3. */
+
+static uint32_t seen[PLYTIMBER_MOST_ROWS]; /* of an item row: the shelf that it is on, plus 1; FREED */
+static uint8_t shelf_seen[PLYTIMBER_MOST_ROWS];
+enum { FREED = 100000 };
+
+static int rule_1(void) {
+    const plytimber_header *h = header();
+    uint16_t along = h->vertical ? h->align_height : h->align_width;
+    return h->width >= 1 && h->height >= 1 && h->height <= 65527 && (uint64_t)h->width * h->height <= INT32_MAX && h->align_width >= 1 && h->align_height >= 1 && h->vertical <= 1 &&
+           h->shelf_width >= 1 && h->shelf_width <= h->width && h->shelf_width % along == 0 && h->used_shelves <= shelf_rows() && h->used_items <= item_rows();
+}
+
+static int rule_2(void) {
+    const plytimber_header *h = header();
+    uint32_t column = 0, y = 0, previous = PLYTIMBER_NO_ROW, empty_above = 0, row = 0;
+    memset(shelf_seen, 0, h->used_shelves);
+    for (; row != PLYTIMBER_NO_ROW; previous = row, row = shelf(row, 4)) {
+        if (row >= h->used_shelves || shelf_seen[row] || column == h->width / h->shelf_width) return 0;
+        shelf_seen[row] = 1;
+        uint16_t first = shelf(row, 5), depth = shelf(row, 2);
+        uint32_t empty = first < h->used_items && item(first, 7) == 0 && item(first, 3) == PLYTIMBER_NO_ROW;
+        if (shelf(row, 3) != previous || shelf(row, 0) != column * h->shelf_width || shelf(row, 1) != y || depth < 1 || y + depth > h->height) return 0;
+        if (shelf(row, 7) != empty || (empty && empty_above)) return 0;
+        y += depth;
+        empty_above = empty;
+        if (y == h->height) column++, y = 0, empty_above = 0;
+    }
+    return y == 0 && column == h->width / h->shelf_width;
+}
+
+static int rule_3(void) {
+    const plytimber_header *h = header();
+    uint16_t along = h->vertical ? h->align_height : h->align_width;
+    memset(seen, 0, sizeof *seen * h->used_items);
+    for (uint32_t on = 0; on != PLYTIMBER_NO_ROW; on = shelf(on, 4)) {
+        uint32_t x = shelf(on, 0), end = x + h->shelf_width, previous = PLYTIMBER_NO_ROW, free_before = 0;
+        for (uint32_t row = shelf(on, 5); row != PLYTIMBER_NO_ROW; previous = row, row = item(row, 3)) {
+            if (row >= h->used_items || seen[row]) return 0;
+            seen[row] = on + 1;
+            uint16_t width = item(row, 1), allocated = item(row, 7);
+            if (item(row, 2) != previous || item(row, 6) != on || item(row, 0) != x || width == 0 || width % along || allocated > 1 || (free_before && !allocated)) return 0;
+            x += width;
+            if (x > end) return 0;
+            free_before = !allocated;
+        }
+        if (x != end) return 0;
+    }
+    return 1;
+}
+
+static int rules_5_to_7(void) {
+    const plytimber_header *h = header();
+    uint64_t total = 0;
+    uint32_t open = 0;
+    for (uint32_t row = 0; row < h->used_items; row++) {
+        if (seen[row] && item(row, 7)) {
+            total += (uint64_t)item(row, 1) * shelf(item(row, 6), 2);
+            if (item(row, 4) != PLYTIMBER_NO_ROW || item(row, 5) != PLYTIMBER_NO_ROW) return 0;
+        } else if (seen[row]) {
+            open++;
+        }
+    }
+    if (total != h->occupied) return 0;
+    /* The free lists: each of its own shelf's free items, and all of them together as many as there are. */
+    for (uint32_t on = 0; on != PLYTIMBER_NO_ROW; on = shelf(on, 4)) {
+        uint32_t previous = PLYTIMBER_NO_ROW;
+        for (uint32_t row = shelf(on, 6); row != PLYTIMBER_NO_ROW; previous = row, row = item(row, 5)) {
+            if (open == 0 || row >= h->used_items || seen[row] != on + 1 || item(row, 7) || item(row, 4) != previous) return 0;
+            open--;
+        }
+    }
+    if (open) return 0;
+    /* The freed rows: what is on no chain, zero but for next and generation. */
+    for (uint32_t row = h->free_items; row != PLYTIMBER_NO_ROW; row = item(row, 3)) {
+        if (row >= h->used_items || seen[row]) return 0;
+        seen[row] = FREED;
+        for (int k = 0; k < 8; k++) {
+            if (k != 3 && item(row, k)) return 0;
+        }
+    }
+    for (uint32_t row = h->free_shelves; row != PLYTIMBER_NO_ROW; row = shelf(row, 4)) {
+        if (row >= h->used_shelves || shelf_seen[row]) return 0;
+        shelf_seen[row] = 1;
+        for (int k = 0; k < 8; k++) {
+            if (k != 4 && shelf(row, k)) return 0;
+        }
+    }
+    for (uint32_t row = 0; row < h->used_items; row++) {
+        if (!seen[row]) return 0;
+    }
+    for (uint32_t row = 0; row < h->used_shelves; row++) {
+        if (!shelf_seen[row]) return 0;
+    }
+    return 1;
+}
+
+static plytimber_verdict audit_answer(void) {
+    uint32_t rule = !rule_1() ? 1 : !rule_2() ? 2 : !rule_3() ? 3 : !rules_5_to_7() ? 5 : 0;
+    return (plytimber_verdict){rule ? PLYTIMBER_AUDIT_FAILS : PLYTIMBER_DONE, rule};
+}
+
 /* ---- one call, made and held against what must be */
 
 static plytimber_header header_before(void) { return *(plytimber_header *)(header_part.in->was + (header_part.at - header_part.in->page)); }
@@ -233,7 +335,18 @@ static void after(uint32_t answer, uint32_t expected, plytimber_verdict verdict)
         hold(same(&shelf_part, 2u * PLYTIMBER_SHELF_NUMBERS * h->used_shelves, shelf_part.bytes), "changes shelf numbers past the used rows");
         hold(same(&item_part, 2u * PLYTIMBER_ITEM_NUMBERS * h->used_items, item_part.bytes), "changes item numbers past the used rows");
     }
-    if (verdict.answer == 0 || (answer == 0 && changes)) hold(plytimber_audit(*header(), TABLES).answer == 0, "the tables don't pass after it");
+    if (verdict.answer == 0 || (answer == 0 && changes)) hold(audit_answer().answer == 0, "the tables don't pass after it");
+}
+
+/* No call moves a live item: all that were live are live still, in their places, but for one. */
+static void others_stay(unsigned but) {
+    const uint16_t *items_were = (uint16_t *)(item_part.in->was + (item_part.at - item_part.in->page)), *shelves_were = (uint16_t *)(shelf_part.in->was + (shelf_part.at - shelf_part.in->page));
+    for (unsigned row = 0; row < header_before().used_items; row++) {
+        const uint16_t *i = items_were + PLYTIMBER_ITEM_NUMBERS * row, *s = shelves_were + PLYTIMBER_SHELF_NUMBERS * i[6];
+        if (i[7] == 0 || row == but) continue;
+        unsigned on = item(row, 6);
+        hold(is_live(row, i[8]) && item(row, 0) == i[0] && item(row, 1) == i[1] && shelf(on, 1) == s[1] && shelf(on, 2) == s[2], "moves another item");
+    }
 }
 
 static int is_zero(const void *p, size_t bytes) {
@@ -287,6 +400,7 @@ static void do_allocate(plytimber_verdict verdict, int32_t width, int32_t height
         hold(o.x1 <= r.x0 || r.x1 <= o.x0 || o.y1 <= r.y0 || r.y1 <= o.y0, "the grant shares a pixel with another");
     }
     hold(live_count() == live + 1, "not one item more is live");
+    others_stay(PLYTIMBER_NO_ROW);
 }
 
 static void do_release(plytimber_verdict verdict, uint16_t row, uint16_t generation) {
@@ -300,6 +414,7 @@ static void do_release(plytimber_verdict verdict, uint16_t row, uint16_t generat
     plytimber_header was = header_before();
     hold(!is_live(row, generation) && live_count() == count - 1, "the item is still live");
     hold(header()->occupied == was.occupied - gone, "occupied does not fall by the area");
+    others_stay(row);
     hold(memcmp(&was, header(), 12) == 0, "changes size or options");
 }
 
@@ -372,7 +487,7 @@ static void do_tell(call_kind kind, plytimber_verdict verdict) {
     } else if (kind == AUDIT) {
         plytimber_verdict told = plytimber_audit(h, TABLES);
         after(told.answer, verdict.answer, verdict);
-        hold(told.rule == verdict.rule && (told.answer ? told.rule == 1 || told.rule == 2 || told.rule == 3 || told.rule == 5 : told.rule == 0), "another rule");
+        hold(told.rule == verdict.rule, "another rule");
         rules[told.rule]++;
     } else {
         plytimber_area told = kind == OCCUPIED ? plytimber_occupied(h, TABLES) : plytimber_free_space(h, TABLES);
@@ -481,14 +596,13 @@ static void on_sound_tables(int size) {
     any_create(size, n);
     if (do_create(n).answer) return;
     for (uint64_t turns = 1 + below(size == 0 ? 200 : size == 1 ? 600 : 60); turns > 0 && calls < wanted; turns--) {
-        plytimber_verdict verdict = {0, 0};
-        any_call(verdict);
+        any_call((plytimber_verdict){0, 0});
         if (below(6) == 0) {
             save();
             change_one();
             for (uint64_t k = 1 + below(3); k > 0; k--) {
                 uint64_t from = calls;
-                any_call(plytimber_audit(*header(), TABLES));
+                any_call(audit_answer());
                 on_damaged += calls - from;
             }
             restore();
@@ -502,7 +616,7 @@ static void on_sound_tables(int size) {
                 p->bytes = used - cut;
                 p->at = memmove(p->in->page + p->in->bytes - p->bytes, p->at, p->bytes);
                 uint64_t from = calls;
-                any_call(plytimber_audit(*header(), TABLES));
+                any_call(audit_answer());
                 on_short += calls - from;
                 *p = whole;
                 restore();
@@ -531,7 +645,7 @@ static void on_random_tables(int size) {
     }
     for (int k = 0; k < 6; k++) {
         uint64_t from = calls;
-        any_call(plytimber_audit(*header(), TABLES));
+        any_call(audit_answer());
         on_random += calls - from;
     }
 }

@@ -37,6 +37,9 @@ plytimber_grant __wrap_plytimber_allocate(plytimber_header *header, SHELVES, ITE
 uint32_t __real_plytimber_release(plytimber_header *header, SHELVES, ITEMS, uint16_t row, uint16_t generation);
 uint32_t __wrap_plytimber_release(plytimber_header *header, SHELVES, ITEMS, uint16_t row, uint16_t generation) {
     uint32_t answer = __real_plytimber_release(header, shelves, s, items, i, row, generation);
+    for (unsigned other = 0; WRONG == 24 && answer == 0 && other < header->used_items; other++) {
+        items[9 * other + 8] += items[9 * other + 7];                          /* the others get new ids: the tables pass, as a generation may be any number */
+    }
     if (WRONG == 12 && answer == 0) header->occupied++;                        /* the tables don't pass after it */
     if (WRONG == 13 && answer == 8 && i > 0) items[i - 1] ^= 1;                /* a refusal changes a table */
     if (WRONG == 14 && answer == 3) answer = 8;                                /* 8 before 3 */
@@ -63,4 +66,19 @@ uint32_t __real_plytimber_clear(plytimber_header *header, SHELVES, ITEMS);
 uint32_t __wrap_plytimber_clear(plytimber_header *header, SHELVES, ITEMS) {
     if (WRONG == 19) return 0;                                                 /* clears nothing */
     return __real_plytimber_clear(header, shelves, s, items, i);
+}
+
+plytimber_verdict __real_plytimber_audit(plytimber_header header, SHELVES, ITEMS);
+plytimber_verdict __wrap_plytimber_audit(plytimber_header header, SHELVES, ITEMS) {
+    plytimber_verdict told = __real_plytimber_audit(header, shelves, s, items, i);
+    if (WRONG == 21 && told.rule == 5) return (plytimber_verdict){0, 0};       /* free lists are believed unread */
+    if (WRONG == 22 && told.rule == 3) told.rule = 2;                          /* another rule than the one that fails */
+    return told;
+}
+
+plytimber_extent __real_plytimber_size(plytimber_header header, SHELVES, ITEMS);
+plytimber_extent __wrap_plytimber_size(plytimber_header header, SHELVES, ITEMS) {
+    plytimber_extent told = __real_plytimber_size(header, shelves, s, items, i);
+    if (WRONG == 23) return (plytimber_extent){told.answer, told.height, told.width}; /* the sides change places */
+    return told;
 }
