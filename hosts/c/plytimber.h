@@ -52,7 +52,8 @@ enum {
  *
  * A shelf row has 8 numbers, an item row 9, a record of a list 6. A table has at most 65535 rows; what is lent beyond is not used.
  * Create needs a row for each column in each table. 2N + C shelf rows and 4N + C item rows, with C columns, are enough for N items
- * at a time: a column has at most one more empty shelf than shelves in use, and a shelf at most one more free stretch than items.
+ * at a time, whatever came before: a column has at most one more empty shelf than shelves in use, and a shelf at most one more free
+ * stretch than items. Fewer will mostly do; then be ready for PLYTIMBER_TOO_FEW_ROWS.
  *
  * Shelf row: x, y, depth, previous, next, first item, first free item, empty (1 or 0).
  * Item row: x, width, previous, next, previous free, next free, shelf, allocated (1 or 0), generation.

@@ -13,7 +13,9 @@ const NO_ROW: u16 = 65535;
 /// The width of the picture, and the room around it and below it.
 const WIDE: f64 = 880.0;
 const EDGE: f64 = 12.0;
-const BELOW: f64 = 34.0;
+const BELOW: f64 = 46.0;
+/// What stands below needs so much width.
+const LEAST: f64 = 560.0;
 
 /// A rectangle of the atlas: x and width run along the shelf, y and depth across it, as they stand in the tables.
 #[derive(Clone, Copy)]
@@ -34,7 +36,11 @@ impl Picture {
     /// Where an area stands in the picture: left, top, width, height.
     fn place(&self, a: Area) -> [f64; 4] {
         let [x, y, width, depth] = [a.x, a.y, a.width, a.depth].map(|n| n as f64 * self.scale);
-        if self.vertical { [EDGE + y, EDGE + x, depth, width] } else { [EDGE + x, EDGE + y, width, depth] }
+        if self.vertical {
+            [EDGE + y, EDGE + x, depth, width]
+        } else {
+            [EDGE + x, EDGE + y, width, depth]
+        }
     }
 
     fn area(&mut self, a: Area, class: &str, more: &str, title: &str) {
@@ -75,7 +81,7 @@ fn draw(atlas: &AtlasAllocator) -> String {
     let Header { width, height, shelf_width, .. } = *header;
     let size = atlas.size();
     let scale = WIDE / size.width.max(size.height) as f64;
-    let (wide, high) = (size.width as f64 * scale + 2.0 * EDGE, size.height as f64 * scale + 2.0 * EDGE + BELOW);
+    let (wide, high) = ((size.width as f64 * scale + 2.0 * EDGE).max(LEAST), size.height as f64 * scale + 2.0 * EDGE + BELOW);
     let mut p = Picture { svg: String::new(), vertical: header.vertical == 1, scale };
     let _ = writeln!(p.svg, r#"<svg xmlns="http://www.w3.org/2000/svg" width="{wide:.0}" height="{high:.0}" viewBox="0 0 {wide:.1} {high:.1}">"#);
     p.svg += STYLE;
@@ -113,15 +119,17 @@ fn draw(atlas: &AtlasAllocator) -> String {
 
     // What the marks mean, and the totals.
     let y = high - BELOW + 2.0;
-    let marks = [("live", colour(5), "live item: row,generation"), ("free", String::new(), "free"), ("shelf", String::new(), "shelf"), ("column", String::new(), "column"), ("none", String::new(), "no column")];
+    let marks = [("live", "live item: row,generation"), ("free", "free"), ("shelf", "shelf"), ("column", "column"), ("none", "no column")];
     let mut x = EDGE;
-    for (class, more, meaning) in marks {
-        let _ = writeln!(p.svg, r#"<rect x="{x:.1}" y="{y:.1}" width="20" height="14" class="{class}"{more}/><text x="{:.1}" y="{:.1}" font-size="12">{meaning}</text>"#, x + 26.0, y + 11.5);
+    for (class, meaning) in marks {
+        let fill = if class == "live" { colour(5) } else { String::new() };
+        let _ = writeln!(p.svg, r#"<rect x="{x:.1}" y="{y:.1}" width="20" height="14" class="{class}"{fill}/>"#);
+        let _ = writeln!(p.svg, r#"<text x="{:.1}" y="{:.1}" font-size="12">{meaning}</text>"#, x + 26.0, y + 11.5);
         x += 44.0 + meaning.len() as f64 * 6.6;
     }
     let area = size.width as i64 * size.height as i64;
     let totals = format!("{} x {}, {} live, {} % occupied", size.width, size.height, atlas.iter().len(), atlas.allocated_space() as i64 * 100 / area);
-    let _ = writeln!(p.svg, r#"<text x="{:.1}" y="{:.1}" font-size="12" text-anchor="end">{totals}</text>"#, wide - EDGE, y + 11.5);
+    let _ = writeln!(p.svg, r#"<text x="{EDGE}" y="{:.1}" font-size="12">{totals}</text>"#, y + 33.0);
     p.svg + "</svg>\n"
 }
 

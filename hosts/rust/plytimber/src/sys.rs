@@ -59,7 +59,6 @@ type Lent = *mut u16;
 type Read = *const u16;
 
 extern "C" {
-    #[rustfmt::skip]
     fn plytimber_create(shelves: Lent, s: usize, items: Lent, i: usize, w: i32, h: i32, align_w: i32, align_h: i32, vertical: i32, columns: i32) -> Created;
     fn plytimber_allocate(header: *mut Header, shelves: Lent, s: usize, items: Lent, i: usize, w: i32, h: i32) -> Grant;
     fn plytimber_release(header: *mut Header, shelves: Lent, s: usize, items: Lent, i: usize, row: u16, generation: u16) -> u32;
@@ -91,9 +90,7 @@ fn live(told: Grant) -> Result<Live, Error> {
 pub fn create(shelves: &mut [u16], items: &mut [u16], numbers: [i32; 6]) -> Result<Header, Error> {
     let [w, h, align_w, align_h, vertical, columns] = numbers;
     // SAFETY: the slices are valid for their lengths, and are not shared.
-    let told = unsafe {
-        plytimber_create(shelves.as_mut_ptr(), shelves.len(), items.as_mut_ptr(), items.len(), w, h, align_w, align_h, vertical, columns)
-    };
+    let told = unsafe { plytimber_create(shelves.as_mut_ptr(), shelves.len(), items.as_mut_ptr(), items.len(), w, h, align_w, align_h, vertical, columns) };
     answered(told.answer, told.header)
 }
 
@@ -120,9 +117,7 @@ pub fn look_up(header: Header, shelves: &[u16], items: &[u16], row: u16, generat
 pub fn list(header: Header, shelves: &[u16], items: &[u16], out: &mut [Live]) -> Result<usize, Error> {
     let numbers = out.len() * (size_of::<Live>() / size_of::<u16>());
     // SAFETY: as in `look_up`; a record is six numbers without a gap, so the list is valid for six times its length.
-    let told = unsafe {
-        plytimber_list(header, shelves.as_ptr(), shelves.len(), items.as_ptr(), items.len(), out.as_mut_ptr().cast(), numbers)
-    };
+    let told = unsafe { plytimber_list(header, shelves.as_ptr(), shelves.len(), items.as_ptr(), items.len(), out.as_mut_ptr().cast(), numbers) };
     answered(told.answer, told.number as usize)
 }
 

@@ -196,22 +196,35 @@ fn tables_of_no_row() {
     assert_eq!(AtlasIn::open(&mut header, &mut [], &mut []).unwrap_err(), Error::AuditFails);
 }
 
-/// As many rows as the documents say to be enough for a number of items, whatever came before.
+/// The most rows that items can need: each alone on a shelf between two free stretches, and an empty shelf above and below each such shelf.
+fn most_rows(items: usize, shelf_rows: usize, item_rows: usize) -> Result<(), Error> {
+    let (width, depth, shelves) = (3600, 16, 2 * items + 1);
+    let mut atlas = AtlasAllocator::with_rows(size2(width, depth * shelves as i32), &DEFAULT_OPTIONS, shelf_rows, item_rows)?;
+    let mut whole = Vec::new();
+    for _ in 0..shelves {
+        whole.push(atlas.allocate(size2(width, depth))?.id);
+    }
+    for k in 0..items {
+        // Wider than what is free on the shelves before, so that both go to this one.
+        let side = size2(1200 + k as i32, depth);
+        atlas.deallocate(whole[2 * k + 1])?;
+        let left = atlas.allocate(side)?;
+        let kept = atlas.allocate(side)?;
+        assert_eq!(kept.rectangle.min, point2(side.width, (2 * k as i32 + 1) * depth));
+        atlas.deallocate(left.id)?;
+    }
+    for id in whole.into_iter().step_by(2) {
+        atlas.deallocate(id)?;
+    }
+    assert_eq!(atlas.iter().len(), items);
+    Ok(())
+}
+
 #[test]
-fn rows_said_to_be_enough() {
-    let (most, columns) = (9, 3);
-    let mut atlas = AtlasAllocator::with_rows(size2(900, 900), &options(1, 1, false, columns), 2 * most + 3, 4 * most + 3).unwrap();
-    let (mut live, mut state) = (Vec::new(), 12345u32);
-    for _ in 0..20000 {
-        state = state.wrapping_mul(1664525).wrapping_add(1013904223);
-        let (w, h, at) = (1 + (state >> 8) % 90, 1 + (state >> 16) % 300, (state >> 4) as usize);
-        if live.len() == most || (state >> 28 < 7 && !live.is_empty()) {
-            atlas.deallocate(live.swap_remove(at % live.len())).unwrap();
-        } else {
-            match atlas.allocate(size2(w as i32, h as i32)) {
-                Ok(a) => live.push(a.id),
-                Err(e) => assert_eq!(e, Error::NoPlace),
-            }
-        }
+fn rows_said_to_be_enough_are_and_no_fewer() {
+    for n in [1, 2, 9, 300] {
+        assert_eq!(most_rows(n, 2 * n + 1, 4 * n + 1), Ok(()));
+        assert_eq!(most_rows(n, 2 * n, 4 * n + 1), Err(Error::TooFewRows));
+        assert_eq!(most_rows(n, 2 * n + 1, 4 * n), Err(Error::TooFewRows));
     }
 }
