@@ -158,7 +158,7 @@ static void canaries(void) {
     }
 }
 
-/* ---- document 01, as far as an answer can be foretold without a search */
+/* ---- document 01 once more, so that every answer is foretold */
 
 typedef struct { uint32_t x0, y0, x1, y1; } rectangle;
 
@@ -193,19 +193,39 @@ static uint32_t create_answer(const int32_t n[6], plytimber_header *fresh, uint3
 
 static int64_t up_to(int64_t n, int64_t step) { return (n + step - 1) / step * step; }
 
-/* 4, 5, 6, or 0 where there is a place: then 7 is as good an answer. */
-static uint32_t allocate_answer(int32_t width, int32_t height) {
+/* How many rows of a table are left, freed or unused; NEXT is the number of a row that links the freed ones. */
+static uint32_t rows_left(uint32_t rows, uint32_t used, uint32_t head, uint16_t (*number)(unsigned, int), int next) {
+    uint32_t left = rows - used;
+    for (; head != PLYTIMBER_NO_ROW; head = number(head, next)) left++;
+    return left;
+}
+
+/* What allocate tells on tables that pass: the checks, the walk along the shelves, the two splits, the rows left. */
+static plytimber_grant allocate_answer(int32_t width, int32_t height) {
     const plytimber_header *h = header();
-    if (width < 1 || width > 65535 || height < 1 || height > 65535) return 4;
+    if (width < 1 || width > 65535 || height < 1 || height > 65535) return (plytimber_grant){.answer = 4};
     int64_t x = up_to(width, h->align_width), y = up_to(height, h->align_height), along = h->vertical ? y : x, deep = h->vertical ? x : y;
-    if (along > h->shelf_width || deep > h->height) return 5;
-    int64_t rounded = up_to(deep, deep < 32 ? 8 : deep < 128 ? 16 : deep < 512 ? 32 : 64);
+    if (along > h->shelf_width || deep > h->height) return (plytimber_grant){.answer = 5};
+    int64_t rounded = up_to(deep, deep < 32 ? 8 : deep < 128 ? 16 : deep < 512 ? 32 : 64), good = 65536;
     if (rounded <= h->height) deep = rounded;
-    for (unsigned row = 0; row < h->used_items; row++) {
-        /* A freed row has width 0. */
-        if (item(row, 7) == 0 && item(row, 1) >= along && shelf(item(row, 6), 2) >= deep) return 0;
+    unsigned held = PLYTIMBER_NO_ROW, on = 0;
+    for (unsigned row = 0; row != PLYTIMBER_NO_ROW; row = shelf(row, 4)) {
+        int64_t depth = shelf(row, 2);
+        int bad = !shelf(row, 7) && depth > least(deep + deep / 2, 65535);
+        if (depth < deep || depth >= good || (bad && held != PLYTIMBER_NO_ROW)) continue;
+        unsigned open = shelf(row, 6);
+        while (open != PLYTIMBER_NO_ROW && item(open, 1) < along) open = item(open, 5);
+        if (open == PLYTIMBER_NO_ROW) continue;
+        held = open, on = row;
+        if (!bad) good = depth;
+        if (depth == deep) break;
     }
-    return 6;
+    if (held == PLYTIMBER_NO_ROW) return (plytimber_grant){.answer = 6};
+    uint32_t depth = shelf(on, 2), wide = item(held, 1), shelf_split = shelf(on, 7) && depth > deep + 8, item_split = wide > along + 8;
+    if (shelf_split > rows_left(shelf_rows(), h->used_shelves, h->free_shelves, shelf, 4) || shelf_split + item_split > rows_left(item_rows(), h->used_items, h->free_items, item, 3))
+        return (plytimber_grant){.answer = 7};
+    uint32_t from = item(held, 0), top = shelf(on, 1), to = from + (item_split ? (uint32_t)along : wide), bottom = top + (shelf_split ? (uint32_t)deep : depth);
+    return h->vertical ? (plytimber_grant){0, held, item(held, 8), top, from, bottom, to} : (plytimber_grant){0, held, item(held, 8), from, top, to, bottom};
 }
 
 /* The seven rules of the audit, written once more: 0, or the first that fails, 5 for one of 5 to 7. Rule 4 follows from 2 and 3. */
@@ -375,19 +395,17 @@ static plytimber_created do_create(const int32_t n[6]) {
 
 static void do_allocate(plytimber_verdict verdict, int32_t width, int32_t height) {
     now = ALLOCATE;
-    uint32_t expected = verdict.answer ? 3 : allocate_answer(width, height);
+    plytimber_grant expected = verdict.answer ? (plytimber_grant){.answer = 3} : allocate_answer(width, height);
     uint32_t live = verdict.answer ? 0 : live_count(), columns = verdict.answer ? 0 : header()->width / header()->shelf_width;
     keep();
     plytimber_grant told = plytimber_allocate(header(), TABLES, width, height);
     hold(!VALGRIND_CHECK_MEM_IS_DEFINED(&told, sizeof told), "it tells numbers that nobody wrote");
-    /* As many rows as the C header says to be enough. */
-    if (expected == 0 && told.answer == 7) {
-        hold(shelf_rows() < 2 * (live + 1) + columns || item_rows() < 4 * (live + 1) + columns, "too few rows, where there are enough for one item more");
-        expected = 7;
-    }
-    after(told.answer, expected, verdict);
+    after(told.answer, expected.answer, verdict);
     ZEROS(told);
+    /* As many rows as the C header says to be enough. */
+    if (told.answer == 7) hold(shelf_rows() < 2 * (live + 1) + columns || item_rows() < 4 * (live + 1) + columns, "too few rows, where there are enough for one item more");
     if (told.answer) return;
+    hold(memcmp(&told, &expected, sizeof told) == 0, "another id or place than document 01's");
     plytimber_header was = header_before();
     rectangle r = {told.x0, told.y0, told.x1, told.y1}, in = rectangle_of(told.row);
     hold(is_live(told.row, told.generation) && memcmp(&r, &in, sizeof r) == 0, "the grant is not what stands in the tables");

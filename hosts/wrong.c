@@ -18,8 +18,8 @@ plytimber_created __wrap_plytimber_create(SHELVES, ITEMS, int32_t w, int32_t h, 
 
 plytimber_grant __real_plytimber_allocate(plytimber_header *header, SHELVES, ITEMS, int32_t w, int32_t h);
 plytimber_grant __wrap_plytimber_allocate(plytimber_header *header, SHELVES, ITEMS, int32_t w, int32_t h) {
-    if (WRONG == 20 && plytimber_audit(*header, shelves, s, items, i).answer == 0 && header->occupied == 0 && header->align_width == 1 && header->align_height == 1 && w == 1 && h == 1)
-        return (plytimber_grant){7, 0, 0, 0, 0, 0, 0};                         /* 7 although rows are left */
+    if (WRONG == 20 && header->used_shelves < 3 && w == 3) return (plytimber_grant){7, 0, 0, 0, 0, 0, 0}; /* 7 although rows are left */
+    if (WRONG == 25 && w > 0 && w < 65535) w++;                                /* a place for a wider request */
     plytimber_grant told = __real_plytimber_allocate(header, shelves, s, items, i, w, h);
     if (WRONG == 3 && told.answer == 0) items[i] = 0;                          /* writes a number past the table */
     if (WRONG == 4 && told.answer == 0) shelves[-1] = 0;                       /* writes a number before the table */
