@@ -17,7 +17,7 @@
  *     - A pointer is valid, and aligned as its type asks, for the length given: a length counts numbers, not bytes and not rows.
  *       It may be less than the table has: rows that are not lent are then not there.
  *     - Header, tables and list don't overlap.
- *     - Nobody else writes to them while a call runs, and to the list nobody else reads either.
+ *     - Nobody else writes to them while a call runs, nor reads what it may write. Atlases that share nothing may be used at once.
  *     - With a length of 0 the pointer is not followed, and may be NULL. The header's pointer may never be NULL.
  *
  * A length that is no multiple of the row's is fine: what is left over is neither read nor written. */
