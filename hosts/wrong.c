@@ -1,5 +1,5 @@
 /* The library with one fault, WRONG, so that hosts/test can see that fuzz.c finds it: each function here stands before the library's own (--wrap of
- * the linker). From 30 on only valgrind can tell. */
+ * the linker). From 50 on only valgrind can tell. */
 #include "c/plytimber.h"
 
 #define SHELVES uint16_t *shelves, size_t s
@@ -9,7 +9,7 @@ static volatile uint16_t read_here;
 
 plytimber_created __real_plytimber_create(SHELVES, ITEMS, int32_t w, int32_t h, int32_t aw, int32_t ah, int32_t vertical, int32_t columns);
 plytimber_created __wrap_plytimber_create(SHELVES, ITEMS, int32_t w, int32_t h, int32_t aw, int32_t ah, int32_t vertical, int32_t columns) {
-    if (WRONG == 32 && s > 0 && shelves[0] == 7) read_here = 1;                /* reads a table that is yet to be written */
+    if (WRONG == 52 && s > 0 && shelves[0] == 7) read_here = 1;                /* reads a table that is yet to be written */
     plytimber_created told = __real_plytimber_create(shelves, s, items, i, w, h, aw, ah, vertical, columns);
     if (WRONG == 1 && told.answer != 0) told.header.free_items = 65535;        /* a refused create gives a header that is not all zero */
     if (WRONG == 2 && told.answer == 7 && s > 0) shelves[0] ^= 1;              /* a refusal changes a table */
@@ -30,7 +30,7 @@ plytimber_grant __wrap_plytimber_allocate(plytimber_header *header, SHELVES, ITE
     if (WRONG == 9 && told.answer == 0 && i > 9u * header->used_items) items[i - 1] ^= 1; /* writes past the used rows */
     if (WRONG == 10 && told.answer == 7) told.row = 1;                         /* a refusal tells more than its number */
     if (WRONG == 11 && told.answer == 0) ((uint8_t *)header)[24] = 0;          /* writes past the header */
-    if (WRONG == 30 && told.answer == 6 && i > 9u * header->used_items && items[i - 1] == 7) read_here = 1; /* reads past the used rows */
+    if (WRONG == 50 && told.answer == 6 && i > 9u * header->used_items && items[i - 1] == 7) read_here = 1; /* reads past the used rows */
     return told;
 }
 
@@ -41,6 +41,7 @@ uint32_t __wrap_plytimber_release(plytimber_header *header, SHELVES, ITEMS, uint
         items[9 * other + 8] += items[9 * other + 7];                          /* the others get new ids: the tables pass, as a generation may be any number */
     }
     if (WRONG == 12 && answer == 0) header->occupied++;                        /* the tables don't pass after it */
+    if (WRONG == 31 && answer == 0 && header->align_height == 1) header->align_height = 2; /* changes an option: with flat shelves the tables pass */
     if (WRONG == 13 && answer == 8 && i > 0) items[i - 1] ^= 1;                /* a refusal changes a table */
     if (WRONG == 14 && answer == 3) answer = 8;                                /* 8 before 3 */
     return answer;
@@ -48,9 +49,10 @@ uint32_t __wrap_plytimber_release(plytimber_header *header, SHELVES, ITEMS, uint
 
 plytimber_count __real_plytimber_list(plytimber_header header, SHELVES, ITEMS, uint16_t *list, size_t l);
 plytimber_count __wrap_plytimber_list(plytimber_header header, SHELVES, ITEMS, uint16_t *list, size_t l) {
-    if (WRONG == 31 && l > 0 && list[0] == 7) read_here = 1;                   /* reads the list */
+    if (WRONG == 51 && l > 0 && list[0] == 7) read_here = 1;                   /* reads the list */
     plytimber_count told = __real_plytimber_list(header, shelves, s, items, i, list, l);
     if (WRONG == 15 && told.answer == 0 && l > 6 * told.count) list[6 * told.count] ^= 1; /* writes past the last record */
+    if (WRONG == 30 && told.answer == 0 && told.count > 1) list[6] = list[0];  /* lists an item twice */
     if (WRONG == 16 && told.answer == 10 && l > 0) list[0] ^= 1;               /* a refusal writes to the list */
     return told;
 }
@@ -59,7 +61,9 @@ plytimber_grant __real_plytimber_look_up(plytimber_header header, SHELVES, ITEMS
 plytimber_grant __wrap_plytimber_look_up(plytimber_header header, SHELVES, ITEMS, uint16_t row, uint16_t generation) {
     if (WRONG == 17) read_here = items[i];                                     /* reads a number past the table */
     if (WRONG == 18) read_here = shelves[-1];                                  /* reads a number before the table */
-    return __real_plytimber_look_up(header, shelves, s, items, i, row, generation);
+    plytimber_grant told = __real_plytimber_look_up(header, shelves, s, items, i, row, generation);
+    if (WRONG == 29 && told.answer == 0) told.y1++;                            /* tells another rectangle */
+    return told;
 }
 
 uint32_t __real_plytimber_clear(plytimber_header *header, SHELVES, ITEMS);
@@ -80,5 +84,26 @@ plytimber_extent __real_plytimber_size(plytimber_header header, SHELVES, ITEMS);
 plytimber_extent __wrap_plytimber_size(plytimber_header header, SHELVES, ITEMS) {
     plytimber_extent told = __real_plytimber_size(header, shelves, s, items, i);
     if (WRONG == 23) return (plytimber_extent){told.answer, told.height, told.width}; /* the sides change places */
+    return told;
+}
+
+plytimber_area __real_plytimber_occupied(plytimber_header header, SHELVES, ITEMS);
+plytimber_area __wrap_plytimber_occupied(plytimber_header header, SHELVES, ITEMS) {
+    plytimber_area told = __real_plytimber_occupied(header, shelves, s, items, i);
+    if (WRONG == 26 && told.answer == 0) told.area++;                          /* a made-up total */
+    return told;
+}
+
+plytimber_area __real_plytimber_free_space(plytimber_header header, SHELVES, ITEMS);
+plytimber_area __wrap_plytimber_free_space(plytimber_header header, SHELVES, ITEMS) {
+    plytimber_area told = __real_plytimber_free_space(header, shelves, s, items, i);
+    if (WRONG == 27 && told.answer == 0) told.area = (uint32_t)header.width * header.height; /* as if nothing were live */
+    return told;
+}
+
+plytimber_vacancy __real_plytimber_is_empty(plytimber_header header, SHELVES, ITEMS);
+plytimber_vacancy __wrap_plytimber_is_empty(plytimber_header header, SHELVES, ITEMS) {
+    plytimber_vacancy told = __real_plytimber_is_empty(header, shelves, s, items, i);
+    if (WRONG == 28 && told.answer == 0) told.vacant = header.used_items == header.width / header.shelf_width; /* empty only while no row was ever taken */
     return told;
 }
