@@ -7,7 +7,12 @@ use promises::answers::Reply;
 
 // The image's length, or 0 where there is no room.
 #[no_mangle]
-pub extern "C" fn bench_save(header: AtlasHeader, shelves: &[u16], items: &[u16], out: &mut [u8]) -> u32
+pub extern "C" fn bench_save(
+    header: AtlasHeader,
+    shelves: &[u16],
+    items: &[u16],
+    out: &mut [u8],
+) -> u32
     requires { ⌜ Passes (headerOf header) (now shelves) (now items) ⌝ }
 {
     match save::save_unaudited(plytimber::header_of(header), shelves, items, out) {

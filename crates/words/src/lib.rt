@@ -67,17 +67,3 @@ pub fn sum_of_words(bytes: &[u8]) -> u32
     }
     sum
 }
-
-// The sum of numbers, likewise few.
-pub fn sum_of(numbers: &[u16]) -> u32
-    requires { ⌜ length (now numbers) ≤ 256 ⌝ }
-    ensures { λ r. ⌜ (r ≡ total (now (numbers .entry))) × (r ≤ 256 * 65535) ⌝ }
-{
-    let mut sum: u32 = 0;
-    let mut i: usize = 0;
-    while i < numbers.len() {
-        sum += numbers[i] as u32;
-        i += 1;
-    }
-    sum
-}
