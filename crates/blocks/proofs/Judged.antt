@@ -1,12 +1,12 @@
 -- What the tests of one block say: its heading, the words after its data, and its check. Assumes nothing.
-use Rattle.numbers.specs.Library.{ℕ, _+_, _-_, _*_, _%_, _≤_, _≡_, refl, sym, ap, _∙_, Bool, false, List, [], _++_, _∷_, length, getD, take, drop, arith, eqb, eqb-true, eq-eqb}
+use Rattle.numbers.specs.Library.{ℕ, _+_, _-_, _*_, _%_, _≤_, _≡_, refl, sym, ap, _∙_, false, List, [], _++_, _∷_, length, getD, take, drop, arith, eqb, eqb-true, eq-eqb}
 use lib.Seq.{take-add}
 use Rattle.numbers.specs.Prelude.{Decides, refuted}
 use Rattle.image_form.specs.Bytes.{wordsOf, total}
 use Rattle.image_form.specs.Blocks.{heading}
 use Rattle.image_form.specs.Form1.{form1}
 use Rattle.image_form.proofs.Words.{length-words, words-take, words-drop, total-append}
-use Rattle.image_form.proofs.Blocks.{held, unused, block-right, right-front, right-unused, right-check}
+use Rattle.image_form.proofs.Blocks.{unused, block-right, right-front, right-unused, right-check}
 use Rattle.blocks.specs.Right.{BlockRight}
 
 -- a test of equality

@@ -2,7 +2,7 @@
 ghost use mathlib.Core.Path.{_≡_};
 ghost use Prim.Native.Nat.{_%_, _<_, _≤_};
 ghost use mathlib.Core.List.{[], _∷_};
-ghost use lib.ListN.{length, take, drop};
+ghost use lib.ListN.{length, take};
 ghost use Rattle.numbers.specs.Prelude.{Decides};
 ghost use Rattle.image_form.specs.Bytes.{bytesOf, wordsOf, total};
 ghost use Rattle.image_form.specs.Blocks.{heading, block};

@@ -1,10 +1,10 @@
 -- A block of form 1 by its pieces: what stands in front, the data, the zeros after it, and the check. Assumes nothing.
-use Rattle.numbers.specs.Library.{ℕ, zero, suc, _+_, _-_, _*_, _%_, _<_, _≤_, _≡_, refl, sym, ap, _∙_, List, [], _++_, _∷_, append-assoc, length, getD, take, drop, arith}
+use Rattle.numbers.specs.Library.{ℕ, zero, suc, _+_, _-_, _*_, _%_, _≤_, _≡_, refl, sym, ap, _∙_, List, [], _++_, _∷_, append-assoc, length, getD, take, drop, arith}
 use Rattle.numbers.specs.Library.{length-append, length-drop, length-take-le, drop-cons}
 use lib.ListN.{replicate, length-replicate, take-append-drop, drop-of-length-le}
 use lib.Seq.{take-at, drop-drop, take-add}
 use Rattle.image_form.specs.Bytes.{bytesOf, wordsOf, total}
-use Rattle.image_form.specs.Blocks.{heading, front, block}
+use Rattle.image_form.specs.Blocks.{front, block}
 use Rattle.image_form.specs.Form1.{form1}
 use Rattle.image_form.proofs.Words.{length-bytes, bytes-append, words-bytes, total-append, total-zeros, zeros-total}
 use Rattle.image_form.proofs.Tables.{same-parts}

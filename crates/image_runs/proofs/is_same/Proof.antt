@@ -1,6 +1,5 @@
 -- `is_same`: byte by byte. Assumes nothing.
 use Prim.Native.Nat.{_≤_, _-_}
-use borrow.Author.Needs.{needs}
 use lib.ListN.{length}
 use native.Mathlib.Omega.{arith}
 use Rattle.image_runs.proofs.is_same.Statement.{statement}

@@ -1,6 +1,5 @@
 -- `table_sum`: the sum stays below 65521. Assumes nothing.
 use Prim.Native.Nat.{_≤_, _<_, _-_}
-use borrow.Author.Needs.{needs}
 use lib.ListN.{length}
 use native.Mathlib.Omega.{arith}
 use Rattle.image_runs.proofs.table_sum.Statement.{statement}

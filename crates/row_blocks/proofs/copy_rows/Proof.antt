@@ -1,5 +1,5 @@
 -- `copy_rows`: the numbers so far are copied. Assumes nothing.
-use Rattle.numbers.specs.Library.{ℕ, _≤_, _<_, _+_, _*_, _-_, _≡_, sym, ap, _∙_, length, needs, arith}
+use Rattle.numbers.specs.Library.{ℕ, _≤_, _+_, _*_, _-_, _≡_, sym, ap, _∙_, length, arith}
 use Rattle.image_form.specs.Bytes.{wordsOf}
 use Rattle.image_form.proofs.Written.{Written, written-none}
 use Rattle.row_blocks.specs.Layout.{heldIn}

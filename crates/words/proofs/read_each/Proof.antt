@@ -1,5 +1,5 @@
 -- `read_each`: so far the first numbers are the first words. Assumes nothing.
-use Rattle.numbers.specs.Library.{ℕ, _≤_, _-_, length, arith}
+use Rattle.numbers.specs.Library.{_≤_, _-_, length, arith}
 use Rattle.image_form.specs.Bytes.{wordsOf}
 use Rattle.image_form.proofs.Words.{length-words}
 use Rattle.words.proofs.Over.{Over, over-none, over-next, over-all}
