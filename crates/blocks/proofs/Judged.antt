@@ -1,11 +1,12 @@
 -- What the tests of one block say: its heading, the words after its data, and its check. Assumes nothing.
-use Rattle.numbers.specs.Library.{ℕ, _+_, _-_, _*_, _%_, _≤_, _≡_, refl, sym, ap, _∙_, Bool, false, List, [], _∷_, length, getD, take, drop, arith, eqb, eqb-true, eq-eqb}
+use Rattle.numbers.specs.Library.{ℕ, _+_, _-_, _*_, _%_, _≤_, _≡_, refl, sym, ap, _∙_, false, List, [], _++_, _∷_, length, getD, take, drop, arith, eqb, eqb-true, eq-eqb}
+use lib.Seq.{take-add}
 use Rattle.numbers.specs.Prelude.{Decides, refuted}
 use Rattle.image_form.specs.Bytes.{wordsOf, total}
 use Rattle.image_form.specs.Blocks.{heading}
 use Rattle.image_form.specs.Form1.{form1}
-use Rattle.image_form.proofs.Words.{length-words, words-take, words-drop}
-use Rattle.image_form.proofs.Blocks.{held, unused, block-right, right-front, right-unused, right-check}
+use Rattle.image_form.proofs.Words.{length-words, words-take, words-drop, total-append}
+use Rattle.image_form.proofs.Blocks.{unused, block-right, right-front, right-unused, right-check}
 use Rattle.blocks.specs.Right.{BlockRight}
 
 -- a test of equality
@@ -57,8 +58,11 @@ module _ (bytes : List ℕ) (long : length bytes ≡ 512) where
           let b : 510 - 2 * (3 + count) ≡ 2 * (252 - count) = omega arith in
           rw (a, b) (words-take (252 - count) (drop (2 * (3 + count)) bytes) ∙ ap (take (252 - count)) (words-drop (3 + count) bytes))
 
-      to-data : wordsOf (take (6 + 2 * count - 0) bytes) ≡ take (3 + count) words
-      to-data = let a : 6 + 2 * count - 0 ≡ 2 * (3 + count) = omega arith in rw a (words-take (3 + count) bytes)
+      -- all words before the check: where those after the data are zero, they add nothing
+      to-check : wordsOf (take 510 bytes) ≡ take (3 + count) words ++ unused words count many few
+      to-check =
+          let a : 255 ≡ 3 + count + (252 - count) = omega arith in
+          words-take 255 bytes ∙ ap (λ (n : ℕ). take n words) a ∙ take-add (3 + count) (252 - count) words
 
       pub wrong-heading : (Heading → ⊥) → Decides false Right
       unfolding BlockRight form1
@@ -72,11 +76,12 @@ module _ (bytes : List ℕ) (long : length bytes ≡ 512) where
         unfolding BlockRight form1
         wrong-unused n = refuted (λ r. n (sum-is ∙ right-unused words count many few number kind rows r))
 
-        pub last-of-block : Heading → sum ≡ 0 → (front check : ℕ) → front ≡ total (wordsOf (take (6 + 2 * count - 0) bytes)) → check ≡ getD words 255 0
+        pub last-of-block : Heading → sum ≡ 0 → (front check : ℕ) → front ≡ total (wordsOf (take 510 bytes)) → check ≡ getD words 255 0
             → Decides (eqb (front % 65535) check) Right
         unfolding BlockRight form1
         last-of-block h z front check f k =
-            let f′ : front % 65535 ≡ total (take (3 + count) words) % 65535 = ap (λ (n : ℕ). n % 65535) (f ∙ ap total to-data) in
+            let f′ : front % 65535 ≡ total (take (3 + count) words) % 65535 =
+            ap (λ (n : ℕ). n % 65535) (f ∙ ap total to-check ∙ total-append (take (3 + count) words) (unused words count many few) ∙ omega (arith, sum-is)) in
             equal (front % 65535) check
             (λ e. block-right words count many few number kind rows h (sym sum-is ∙ z) (sym f′ ∙ e ∙ k))
             (λ r. f′ ∙ right-check words count many few number kind rows r ∙ sym k)

@@ -1,8 +1,8 @@
 // One block of saved form 1, over 512 lent bytes.
 ghost use mathlib.Core.Path.{_≡_};
-ghost use Prim.Native.Nat.{_+_, _%_, _<_, _≤_};
+ghost use Prim.Native.Nat.{_%_, _<_, _≤_};
 ghost use mathlib.Core.List.{[], _∷_};
-ghost use lib.ListN.{length, take, drop};
+ghost use lib.ListN.{length, take};
 ghost use Rattle.numbers.specs.Prelude.{Decides};
 ghost use Rattle.image_form.specs.Bytes.{bytesOf, wordsOf, total};
 ghost use Rattle.image_form.specs.Blocks.{heading, block};
@@ -17,24 +17,25 @@ fn heading(number: u16, kind: u16, rows: u16) -> [u16; 3]
     [number, 1 + 256 * kind, rows]
 }
 
-// The check, without the unused words: they are zero.
-fn check_of(front: &[u16; 3], numbers: &[u16]) -> [u16; 1]
-    requires { ⌜ length (now numbers) ≤ 252 ⌝ }
-    ensures { λ r. ⌜ r ≡ ((total (now (front .entry)) + total (now (numbers .entry))) % 65535) ∷ [] ⌝ }
+// The check of the bytes before it.
+fn check_of(bytes: &[u8]) -> [u16; 1]
+    requires { ⌜ length (now bytes) ≡ 510 ⌝ }
+    ensures { λ r. ⌜ r ≡ (total (wordsOf (now (bytes .entry))) % 65535) ∷ [] ⌝ }
 {
-    [((words::sum_of(front) + words::sum_of(numbers)) % 65535) as u16]
+    [(words::sum_of_words(bytes) % 65535) as u16]
 }
 
+// Copied first, then summed: the length of what is summed is always the same.
 pub fn write_block(out: &mut [u8], number: u16, kind: u16, rows: u16, numbers: &[u16])
     requires { ⌜ (length (now out) ≡ 512) × (length (now numbers) ≤ 252) × (kind < 256) ⌝ }
     ensures { λ _. ⌜ now (out .exit) ≡ bytesOf (block form1 number kind rows (now (numbers .entry))) ⌝ }
 {
     let front = heading(number, kind, rows);
-    let check = check_of(&front, numbers);
     let end = 6 + 2 * numbers.len();
     words::write_words(&mut out[0..6], &front);
     words::write_words(&mut out[6..end], numbers);
     words::write_zeros(&mut out[end..510]);
+    let check = check_of(&out[0..510]);
     words::write_words(&mut out[510..512], &check);
 }
 
@@ -64,5 +65,5 @@ pub fn block_right(block: &[u8], number: u16, kind: u16, rows: u16, count: usize
     if words::sum_of_words(&block[end..510]) != 0 {
         return false;
     }
-    words::sum_of_words(&block[0..end]) % 65535 == words::word(block, 255) as u32
+    words::sum_of_words(&block[0..510]) % 65535 == words::word(block, 255) as u32
 }

@@ -1,12 +1,12 @@
 -- A block of form 1 by its pieces: what stands in front, the data, the zeros after it, and the check. Assumes nothing.
-use Rattle.numbers.specs.Library.{ℕ, zero, suc, _+_, _-_, _*_, _%_, _<_, _≤_, _≡_, refl, sym, ap, _∙_, List, [], _++_, _∷_, append-assoc, length, getD, take, drop, arith}
+use Rattle.numbers.specs.Library.{ℕ, zero, suc, _+_, _-_, _*_, _%_, _≤_, _≡_, refl, sym, ap, _∙_, List, [], _++_, _∷_, append-assoc, length, getD, take, drop, arith}
 use Rattle.numbers.specs.Library.{length-append, length-drop, length-take-le, drop-cons}
 use lib.ListN.{replicate, length-replicate, take-append-drop, drop-of-length-le}
 use lib.Seq.{take-at, drop-drop, take-add}
-use Rattle.image_form.specs.Bytes.{bytesOf, total}
-use Rattle.image_form.specs.Blocks.{heading, front, block}
+use Rattle.image_form.specs.Bytes.{bytesOf, wordsOf, total}
+use Rattle.image_form.specs.Blocks.{front, block}
 use Rattle.image_form.specs.Form1.{form1}
-use Rattle.image_form.proofs.Words.{length-bytes, bytes-append, total-append, total-zeros, zeros-total}
+use Rattle.image_form.proofs.Words.{length-bytes, bytes-append, words-bytes, total-append, total-zeros, zeros-total}
 use Rattle.image_form.proofs.Tables.{same-parts}
 use Rattle.image_form.proofs.Written.{Written, length-written, written-first, written-to, written-all}
 
@@ -55,6 +55,19 @@ module _ (number kind rows : ℕ) (numbers : List ℕ) (few : length numbers ≤
       ∙ ap (λ (l : List ℕ). bytesOf (head1 number kind rows) ++ l) (bytes-append numbers (replicate (252 - length numbers) 0 ++ (checkOf number kind rows numbers ∷ []))
       ∙ ap (λ (l : List ℕ). bytesOf numbers ++ l) (bytes-append (replicate (252 - length numbers) 0) (checkOf number kind rows numbers ∷ []))))
 
+  -- the bytes before the check, and their sum
+  front-bytes : bytesOf ((head1 number kind rows ++ numbers) ++ replicate (252 - length numbers) 0)
+      ≡ (bytesOf (head1 number kind rows) ++ bytesOf numbers) ++ replicate (510 - (6 + 2 * length numbers)) 0
+  front-bytes =
+      let e : 510 - (6 + 2 * length numbers) ≡ 2 * (252 - length numbers) = omega arith in
+      bytes-append (head1 number kind rows ++ numbers) (replicate (252 - length numbers) 0)
+      ∙ rw (e, ← bytes-zeros (252 - length numbers)) (ap (λ (l : List ℕ). l ++ bytesOf (replicate (252 - length numbers) 0)) (bytes-append (head1 number kind rows) numbers))
+
+  front-total : total (wordsOf (bytesOf ((head1 number kind rows ++ numbers) ++ replicate (252 - length numbers) 0))) ≡ total (head1 number kind rows) + total numbers
+  front-total =
+      ap total (words-bytes ((head1 number kind rows ++ numbers) ++ replicate (252 - length numbers) 0))
+      ∙ omega (arith, total-append (head1 number kind rows ++ numbers) (replicate (252 - length numbers) 0), total-append (head1 number kind rows) numbers, total-zeros (252 - length numbers))
+
   -- four parts, one after the other: heading, data, zeros, check
   module _ (out : List ℕ) (long : length out ≡ 512) (heads data-bytes zeros check : List ℕ) where
     abbrev end : ℕ
@@ -70,7 +83,7 @@ module _ (number kind rows : ℕ) (numbers : List ℕ) (few : length numbers ≤
     third = take end second ++ (zeros ++ drop (510 - end) (drop end second))
 
     pub block-written : heads ≡ bytesOf (head1 number kind rows) → data-bytes ≡ bytesOf numbers → zeros ≡ replicate (length (take (510 - end) (drop end second))) 0
-        → check ≡ bytesOf (checkOf number kind rows numbers ∷ []) → take 510 third ++ (check ++ drop 2 (drop 510 third)) ≡ bytesOf (block form1 number kind rows numbers)
+        → check ≡ bytesOf ((total (wordsOf (take 510 third)) % 65535) ∷ []) → take 510 third ++ (check ++ drop 2 (drop 510 third)) ≡ bytesOf (block form1 number kind rows numbers)
     block-written h d z k =
         let w₁ : Written out heads 6 first = written-first out heads 6 (ap length h ∙ length-bytes (head1 number kind rows)) in
         let w₂ : Written out (heads ++ data-bytes) end second = written-to w₁ data-bytes (end - 6) end (ap length d ∙ length-bytes numbers ∙ omega arith) (omega arith) in
@@ -78,8 +91,11 @@ module _ (number kind rows : ℕ) (numbers : List ℕ) (few : length numbers ≤
         let z′ : zeros ≡ replicate (510 - end) 0 = z ∙ ap (λ (n : ℕ). replicate n 0) room in
         let w₃ : Written out ((heads ++ data-bytes) ++ zeros) 510 third =
         written-to w₂ zeros (510 - end) 510 (ap length z′ ∙ length-replicate {A = ℕ} (510 - end) 0) (omega arith) in
-        let w₄ = written-to w₃ check 2 512 (ap length k ∙ length-bytes (checkOf number kind rows numbers ∷ [])) refl in
-        written-all w₄ (omega arith) ∙ rw (h, d, z′, k) (sym bytes-are)
+        let same : take 510 third ≡ bytesOf ((head1 number kind rows ++ numbers) ++ replicate (252 - length numbers) 0) =
+        ap (take 510) (w₃ .is) ∙ take-at ((heads ++ data-bytes) ++ zeros) (drop 510 out) 510 (w₃ .long) ∙ rw (h, d, z′) (sym front-bytes) in
+        let k′ : check ≡ bytesOf (checkOf number kind rows numbers ∷ []) = k ∙ ap (λ (n : ℕ). bytesOf ((n % 65535) ∷ [])) (ap (λ (l : List ℕ). total (wordsOf l)) same ∙ front-total) in
+        let w₄ = written-to w₃ check 2 512 (ap length k′ ∙ length-bytes (checkOf number kind rows numbers ∷ [])) refl in
+        written-all w₄ (omega arith) ∙ rw (h, d, z′, k′) (sym bytes-are)
 
 -- ---- a block's words as they are met
 

@@ -1,5 +1,5 @@
 -- Pieces put one after the other: each is found again where it stands, and a list that has them there is made of them. Assumes nothing.
-use Rattle.numbers.specs.Library.{ℕ, zero, suc, _+_, _*_, _≤_, _<_, _≡_, refl, sym, ap, _∙_, List, [], _++_, length, length-append, length-drop, take, drop, arith, decLt, take-all, suc-mul}
+use Rattle.numbers.specs.Library.{ℕ, zero, suc, _+_, _*_, _≤_, _<_, _≡_, refl, _∙_, List, _++_, length, length-append, length-drop, take, drop, arith, decLt, take-all, suc-mul}
 use Rattle.numbers.specs.Library.{mul-le-mul-right}
 use lib.Seq.{drop-at, take-append-le, drop-append-le, take-add, take-length}
 use Rattle.image_form.specs.Blocks.{upTo}

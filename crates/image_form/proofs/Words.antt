@@ -1,8 +1,6 @@
 -- Words and bytes tell each other; a part of the one is a part of the other. Assumes nothing.
-use Rattle.numbers.specs.Library.{ℕ, zero, suc, _+_, _*_, _/_, _%_, _<_, _≤_, _≡_, refl, sym, ap, _∙_, List, [], _++_, _∷_, length, getD, take, drop, arith}
-use Rattle.numbers.specs.Library.{div-add-mod'}
+use Rattle.numbers.specs.Library.{ℕ, zero, suc, _+_, _*_, _/_, _%_, _<_, _≡_, refl, ap, List, [], _++_, _∷_, length, getD, take, drop, arith}
 use lib.ListN.{replicate}
-use native.Mathlib.Nat.{mod-lt}
 use Rattle.image_form.specs.Bytes.{bytesOf, wordsOf, total}
 
 pub length-bytes : (ws : List ℕ) → length (bytesOf ws) ≡ 2 * length ws

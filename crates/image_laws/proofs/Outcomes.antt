@@ -2,16 +2,16 @@
 use Rattle.numbers.specs.Library.{ℕ, _<_, _≡_, sym, ap, _∙_, List, getD, arith}
 use Rattle.rows.specs.Prelude.{items, shelves}
 use Rattle.rows.specs.declared.{header.Header.Header, shelf.ShelfRow.ShelfRow, item.ItemRow.ItemRow}
-use Rattle.rules.specs.Prelude.{Passes, Outcome, refused, gives, mapped, Judged}
+use Rattle.rules.specs.Prelude.{Passes, Outcome, refused, gives, Judged}
 use Rattle.promises.specs.Answering.{reply-apart}
 use Rattle.promises.specs.declared.answers.Replied.{Replied}
 use Rattle.promises.proofs.Outcomes.{once}
 use Rattle.image_form.specs.Tables.{storedFrom}
-use Rattle.image_form.proofs.Tables.{numbers, same-numbers}
-use Rattle.image_promises.specs.Promises.{savingSays, SavedSo, Saves, Holds, HasRows, LoadedSo, Loads, wrong, few, copied}
+use Rattle.image_form.proofs.Tables.{same-numbers}
+use Rattle.image_promises.specs.Promises.{savingSays, SavedSo, Saves, Holds, LoadedSo, Loads, wrong, few, copied}
 use Rattle.image_promises.specs.declared.answers.Saving.{Saving}
 use Rattle.image_promises.specs.declared.answers.Saving.the-variants as saving
-use Rattle.load.specs.Right.{headerIn, headerBlock, shelfNumbers, itemNumbers}
+use Rattle.load.specs.Right.{shelfNumbers, itemNumbers}
 use Rattle.load.proofs.Standing.{same-sizes, Stands, holds-stands}
 
 -- an image is a list of bytes

@@ -1,5 +1,5 @@
 -- An image that is loaded saves to the same bytes, and an atlas that is saved loads to the same header and used rows. Assumes nothing.
-use Rattle.numbers.specs.Library.{ℕ, _≤_, _<_, _≡_, refl, sym, ap, _∙_, Bool, true, false, List, length, take, drop, ltb, le-ltb, arith}
+use Rattle.numbers.specs.Library.{ℕ, _≤_, _≡_, refl, sym, ap, _∙_, Bool, true, false, List, length, take, drop, ltb, le-ltb, arith}
 use Rattle.numbers.specs.Prelude.{pick}
 use lib.Seq.{take-at}
 use Rattle.rows.specs.Prelude.{rows, rows-long, items, shelves}
@@ -12,7 +12,6 @@ use Rattle.promises.specs.declared.answers.Reply.the-variants as reply
 use Rattle.promises.specs.Answers.{replySays}
 use Rattle.promises.specs.Answering.{reply-apart}
 use Rattle.image_form.specs.Bytes.{over}
-use Rattle.image_form.specs.Form1.{imageOf}
 use Rattle.image_form.specs.Tables.{firstRows, storedFrom}
 use Rattle.image_form.proofs.Tables.{length-first, same-first, first-stored, length-stored}
 use Rattle.image_promises.specs.Promises.{savingSays, savedImage, written, outputAfter, SavedSo, Saves, Holds, HasRows, headerAfter, LoadedSo, Loads, wrong, few, copied}

@@ -4,7 +4,7 @@ use Rattle.numbers.specs.Library.{ℕ, _≤_, _≡_, List, [], _∷_, length, l
 use Rattle.numbers.specs.Prelude.{pick}
 use Rattle.rows.specs.Prelude.{rows, items, shelves, zeroHeader}
 use Rattle.rows.specs.declared.{header.Header.Header, shelf.ShelfRow.ShelfRow, item.ItemRow.ItemRow}
-use Rattle.rules.specs.Prelude.{Passes, Outcome, refused, gives, mapped, Value, Judged, done}
+use Rattle.rules.specs.Prelude.{Passes, Outcome, refused, gives, mapped, Judged, done}
 use Rattle.promises.specs.Answers.{replySays, replyNumbers}
 use Rattle.promises.specs.declared.answers.Replied.{Replied}
 use Rattle.image_form.specs.Bytes.{over}

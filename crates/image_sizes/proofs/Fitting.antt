@@ -1,5 +1,5 @@
 -- The used rows of both tables fit the blocks that they take. Assumes nothing.
-use Rattle.numbers.specs.Library.{ℕ, _+_, _*_, _≤_, _<_, _≡_, arith, lit<}
+use Rattle.numbers.specs.Library.{ℕ, _+_, _*_, _≤_, arith}
 use Rattle.rows.specs.Prelude.{items, shelves}
 use Rattle.rows.specs.declared.header.Header.{Header}
 use Rattle.image_form.specs.Blocks.{blockCount}

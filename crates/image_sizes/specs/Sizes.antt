@@ -1,5 +1,5 @@
 -- How large the image of an atlas is: by its used rows alone. Assumes nothing.
-use Rattle.numbers.specs.Library.{ℕ, _+_, _*_, _<_, _≡_}
+use Rattle.numbers.specs.Library.{_+_, _*_, _<_, _≡_}
 use Rattle.rows.specs.declared.header.Header.{Header}
 use Rattle.image_form.specs.Blocks.{blockCount}
 use Rattle.image_sizes.specs.declared.Sizes.{Sizes}

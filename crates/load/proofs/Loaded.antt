@@ -1,6 +1,6 @@
 -- The tests of an image, and the promise of load from what the code has seen. Assumes nothing.
 use Rattle.numbers.specs.Library.{ℕ, _+_, _-_, _*_, _≤_, _<_, _≡_, refl, sym, ap, _∙_, Bool, true, false, not, List, length, length-drop, length-take-le, getD, take, drop, arith, leb, leb-true, le-leb}
-use Rattle.numbers.specs.Prelude.{Decides, refuted, denied, allowed}
+use Rattle.numbers.specs.Prelude.{Decides, refuted, denied}
 use Rattle.rows.specs.Prelude.{rows, items, shelves}
 use Rattle.rows.specs.declared.header.Header.{Header}
 use Rattle.rules.specs.Prelude.{Passes, refused, gives, Judged}
@@ -15,7 +15,7 @@ use Rattle.row_blocks.specs.Layout.{layoutOf, AllRight}
 use Rattle.image_sizes.specs.Sizes.{SizesOf}
 use Rattle.image_sizes.specs.declared.Sizes.{Sizes}
 use Rattle.image_promises.specs.Promises.{HasRows, LoadedSo, Loads, wrong, few, copied}
-use Rattle.load.specs.Right.{headerIn, headerBlock, shelfBlocks, itemBlocks, RowsRight, Right, ImageRight, shelfNumbers, itemNumbers}
+use Rattle.load.specs.Right.{headerIn, headerBlock, shelfBlocks, itemBlocks, RowsRight, ImageRight, shelfNumbers, itemNumbers}
 use Rattle.load.proofs.Standing.{same-sizes, shelvesStanding, itemsStanding, right-holds, Stands, holds-stands}
 
 -- ---- whether there are rows enough

@@ -1,5 +1,5 @@
 -- An image is right exactly when it is the image of a header and rows; and then the header and the rows are those that stand in it. Assumes nothing.
-use Rattle.numbers.specs.Library.{ℕ, suc, _+_, _-_, _*_, _/_, _%_, _≤_, _<_, _≡_, refl, sym, ap, _∙_, List, [], _∷_, _++_, length, length-append, length-drop, length-take-le, getD, take, drop}
+use Rattle.numbers.specs.Library.{ℕ, suc, _+_, _-_, _*_, _/_, _%_, _<_, _≡_, refl, sym, ap, _∙_, List, _∷_, _++_, length, length-append, length-drop, length-take-le, getD, take, drop}
 use Rattle.numbers.specs.Library.{arith, append-assoc, decLt, drop-cons, take-all}
 use lib.Seq.{take-at, drop-at, drop-drop, getD-take}
 use lib.ListN.{take-append-drop, List·getD-eq-default}
@@ -13,13 +13,12 @@ use Rattle.image_form.proofs.Words.{length-bytes, words-bytes, bytes-words, len
 use Rattle.image_form.proofs.Tables.{numbers, length-first}
 use Rattle.image_form.proofs.Blocks.{block-is, length-block, data-back}
 use Rattle.blocks.specs.Right.{BlockRight}
-use Rattle.row_blocks.specs.Layout.{layoutOf}
-use Rattle.row_blocks.proofs.ByRows.{rowsMet, rows-met, rows-right, numbers-are, length-is}
+use Rattle.row_blocks.proofs.ByRows.{rows-met, rows-right, numbers-are, length-is}
 use Rattle.image_sizes.specs.Sizes.{SizesOf}
 use Rattle.image_sizes.specs.declared.Sizes.{Sizes}
 use Rattle.image_sizes.proofs.Fitting.{shelves-laid, items-laid, all-shelves, all-items}
 use Rattle.image_promises.specs.Promises.{Holds}
-use Rattle.load.specs.Right.{headerIn, headerBlock, shelfBlocks, itemBlocks, RowsRight, Right, ImageRight, shelfNumbers, itemNumbers}
+use Rattle.load.specs.Right.{headerIn, headerBlock, shelfBlocks, itemBlocks, RowsRight, Right, shelfNumbers, itemNumbers}
 
 -- a header has one choice of sizes
 pub same-sizes : {h : Header} {y z : Sizes} → SizesOf h y → SizesOf h z → y ≡ z

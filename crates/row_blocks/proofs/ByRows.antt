@@ -1,6 +1,6 @@
 -- The blocks of a kind, by rows and by numbers alone: what code writes, judges and copies is what the form says of the rows. Assumes nothing.
-use Rattle.numbers.specs.Library.{ℕ, zero, suc, _+_, _-_, _*_, _≤_, _<_, min, _≡_, refl, sym, ap, _∙_, List, [], _++_, length, take, drop, arith, suc-mul, add-mul, mul-le-mul-right}
-use Rattle.numbers.specs.Library.{length-append, length-take, length-drop, take-all, decLt}
+use Rattle.numbers.specs.Library.{ℕ, zero, suc, _+_, _-_, _*_, _≤_, _<_, min, _≡_, refl, sym, ap, _∙_, List, length, take, drop, arith, suc-mul}
+use Rattle.numbers.specs.Library.{length-take, length-drop, take-all, decLt}
 use lib.Seq.{take-add}
 use native.Mathlib.Nat.{mul-assoc, min-eq-left, min-eq-right}
 use Rattle.rows.specs.Prelude.{Shape, rows, fit-rows}
@@ -12,7 +12,7 @@ use Rattle.image_form.proofs.Pieces.{same-up-to, length-up-to, piece-at, up-to-
 use Rattle.image_form.proofs.Tables.{numbers, length-numbers, numbers-append, numbers-take, numbers-drop, length-first, numbers-first}
 use Rattle.image_form.proofs.Blocks.{length-block, data-back}
 use Rattle.blocks.specs.Right.{BlockRight}
-use Rattle.row_blocks.specs.Layout.{layoutOf, Laid, Rows, rowsIn, numbersHeld, tableBlock, AllRight, heldIn}
+use Rattle.row_blocks.specs.Layout.{layoutOf, Laid, rowsIn, numbersHeld, tableBlock, AllRight, heldIn}
 use Rattle.row_blocks.proofs.Places.{place, length-held, held-full, met-all}
 
 take-min : {A : Type 0} (m : ℕ) (l : List A) → take m l ≡ take (min m (length l)) l

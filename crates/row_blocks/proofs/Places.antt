@@ -1,5 +1,5 @@
 -- Where block b of a kind stands, in the image and in the table, and what one more block adds. Assumes nothing.
-use Rattle.numbers.specs.Library.{ℕ, zero, suc, _+_, _-_, _*_, _≤_, _<_, min, _≡_, refl, sym, ap, _∙_, true, List, [], _++_, length, take, drop, arith, suc-mul, add-mul}
+use Rattle.numbers.specs.Library.{ℕ, zero, suc, _+_, _-_, _*_, _≤_, _<_, _≡_, refl, sym, ap, _∙_, true, List, _++_, length, take, drop, arith, suc-mul, add-mul}
 use Rattle.numbers.specs.Library.{add-one, mul-le-mul-right, length-append, length-take, length-drop, length-take-le, decLt}
 use lib.Seq.{drop-drop}
 use native.Mathlib.Nat.{mul-assoc, add-sub-cancel-left, min-le-left, min-le-right, min-eq-left, min-eq-right}

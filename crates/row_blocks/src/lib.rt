@@ -88,7 +88,7 @@ pub fn copy_rows(table: &mut [u16], image: &[u8], k: Layout, used: usize, n: usi
         let end = from + rows * k.width;
         let at = b * 512 + 6;
         let to = at + 2 * (rows * k.width);
-        words::read_words(&mut table[from..end], &image[at..to]);
+        words::read_words(&mut table[from..end], &image[at..to], k.most * k.width);
         b += 1;
     }
 }

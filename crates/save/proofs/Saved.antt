@@ -1,11 +1,11 @@
 -- The image of an atlas by its three parts, as they are written: the header block, the shelf rows' blocks, the item rows'. And the promise of save from what
 -- the code has seen. Assumes nothing.
-use Rattle.numbers.specs.Library.{ℕ, _+_, _-_, _*_, _≤_, _<_, _≡_, refl, sym, ap, _∙_, Bool, true, false, not, List, [], _++_, length, length-append, length-drop, length-take-le, take, drop, arith}
+use Rattle.numbers.specs.Library.{ℕ, _+_, _-_, _*_, _≤_, _<_, _≡_, refl, sym, ap, _∙_, Bool, true, false, not, List, _++_, length, length-append, length-drop, length-take-le, take, drop, arith}
 use Rattle.numbers.specs.Library.{ltb, lt-ltb, le-ltb}
 use Rattle.numbers.specs.Prelude.{Decides, denied}
-use Rattle.rows.specs.Prelude.{Shape, rows, items, shelves}
+use Rattle.rows.specs.Prelude.{rows, items, shelves}
 use Rattle.rows.specs.declared.header.Header.{Header}
-use Rattle.rules.specs.Prelude.{Passes, gives, refused, mapped, Judged}
+use Rattle.rules.specs.Prelude.{Passes, gives, mapped}
 use Rattle.rules.specs.Promise as judged
 use Rattle.image_form.specs.Bytes.{bytesOf, over}
 use Rattle.image_form.specs.Blocks.{Kind, block, upTo, blockCount, blocksOf}

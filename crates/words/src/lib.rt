@@ -18,16 +18,29 @@ pub fn word(bytes: &[u8], at: usize) -> u16
     wide(bytes[2 * at]) + 256 * wide(bytes[2 * at + 1])
 }
 
-// The bytes' words, into numbers that are as many.
-pub fn read_words(numbers: &mut [u16], bytes: &[u8])
-    requires { ⌜ length (now bytes) ≡ 2 * length (now numbers) ⌝ }
+// The words of n numbers' bytes, into the n numbers.
+fn read_each(numbers: &mut [u16], bytes: &[u8], n: usize)
+    requires { ⌜ (length (now numbers) ≡ n) × (length (now bytes) ≡ 2 * n) ⌝ }
     ensures { λ _. ⌜ now (numbers .exit) ≡ wordsOf (now (bytes .entry)) ⌝ }
 {
     let mut i: usize = 0;
-    while i < numbers.len() {
+    while i < n {
         numbers[i] = word(bytes, i);
         i += 1;
     }
+}
+
+// The bytes' words, into numbers that are as many. Where they are as many as usual the length is known when this is compiled, which is faster.
+pub fn read_words(numbers: &mut [u16], bytes: &[u8], usual: usize)
+    requires { ⌜ length (now bytes) ≡ 2 * length (now numbers) ⌝ }
+    ensures { λ _. ⌜ now (numbers .exit) ≡ wordsOf (now (bytes .entry)) ⌝ }
+{
+    let n = numbers.len();
+    if n == usual {
+        read_each(numbers, bytes, usual);
+        return;
+    }
+    read_each(numbers, bytes, n);
 }
 
 // The numbers' bytes, over bytes that are as many.
@@ -63,20 +76,6 @@ pub fn sum_of_words(bytes: &[u8]) -> u32
     let mut i: usize = 0;
     while i < bytes.len() / 2 {
         sum += word(bytes, i) as u32;
-        i += 1;
-    }
-    sum
-}
-
-// The sum of numbers, likewise few.
-pub fn sum_of(numbers: &[u16]) -> u32
-    requires { ⌜ length (now numbers) ≤ 256 ⌝ }
-    ensures { λ r. ⌜ (r ≡ total (now (numbers .entry))) × (r ≤ 256 * 65535) ⌝ }
-{
-    let mut sum: u32 = 0;
-    let mut i: usize = 0;
-    while i < numbers.len() {
-        sum += numbers[i] as u32;
         i += 1;
     }
     sum

@@ -1,5 +1,5 @@
 -- `header_in`: its limits and six words more. Assumes nothing.
-use Rattle.numbers.specs.Library.{needs, arith}
+use Rattle.numbers.specs.Library.{needs}
 use Rattle.load.specs.Right.{headerIn}
 use Rattle.load.proofs.header_in.Statement.{statement}
 use Rattle.load.proofs.header_in.Tie as tie

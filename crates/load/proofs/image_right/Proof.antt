@@ -1,5 +1,5 @@
 -- `image_right`: the header block, the length that its used rows ask for, and the blocks of the rows. Assumes nothing.
-use Rattle.numbers.specs.Library.{needs, arith}
+use Rattle.numbers.specs.Library.{needs}
 use Rattle.numbers.specs.Prelude.{denied, allowed}
 use Rattle.load.proofs.Loaded.{too-short, header-wrong, other-length, rows-decide}
 use Rattle.load.proofs.image_right.Statement.{statement}

@@ -1,6 +1,6 @@
 -- `rows_right`: the blocks of the shelf rows, then those of the item rows. Assumes nothing.
 use Rattle.numbers.specs.Library.{needs, arith}
-use Rattle.numbers.specs.Prelude.{Decides, refuted, denied, allowed}
+use Rattle.numbers.specs.Prelude.{denied, allowed}
 use Rattle.image_sizes.proofs.Fitting.{shelves-laid, items-laid}
 use Rattle.load.proofs.Loaded.{part-of-blocks, shelves-wrong, items-decide}
 use Rattle.load.proofs.rows_right.Statement.{statement}

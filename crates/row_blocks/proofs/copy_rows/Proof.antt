@@ -1,5 +1,5 @@
 -- `copy_rows`: the numbers so far are copied. Assumes nothing.
-use Rattle.numbers.specs.Library.{ℕ, _≤_, _<_, _+_, _*_, _-_, _≡_, sym, ap, _∙_, length, needs, arith}
+use Rattle.numbers.specs.Library.{ℕ, _≤_, _+_, _*_, _-_, _≡_, sym, ap, _∙_, length, arith}
 use Rattle.image_form.specs.Bytes.{wordsOf}
 use Rattle.image_form.proofs.Written.{Written, written-none}
 use Rattle.row_blocks.specs.Layout.{heldIn}
@@ -28,7 +28,7 @@ part-read-words-end c =
 
 read-words-requires : tie.Need-read-words-requires Inv-loop μ-loop
 read-words-requires c κs =
-    let rows = c .before .before .before .before .before .before in
+    let rows = c .before .before .before .before .before .before .before in
     let turn = rows .before .before in
     let start = turn .before .before .before in
     part-long (start .args .image .now) (turn .loop .b * 512 + 6) (2 * (rows .rows-in .result * start .args .k .width)) (omega arith)
@@ -38,7 +38,7 @@ read-words-requires c κs =
 loop-again : tie.Need-loop-again Inv-loop μ-loop
 loop-again c =
     let read = c .before .before in
-    let rows = read .before .before .before .before .before .before .before in
+    let rows = read .before .before .before .before .before .before .before .before in
     let turn = rows .before .before in
     let start = turn .before .before .before in
     (omega arith, one-copied (start .pre .0) _ (start .pre .1) _ (turn .loop .b) (omega arith) (turn .loop .inv .1) _ (rows .rows-in .ensures .are) _ (read .read-words .ensures))
@@ -77,6 +77,7 @@ copy-rows-spec =
     (λ c. omega arith)
     (λ c. omega arith)
     part-read-words-end
+    (λ c. omega arith)
     (λ c. omega arith)
     (λ c. omega arith)
     (λ c. omega arith)

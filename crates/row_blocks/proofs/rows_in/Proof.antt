@@ -1,5 +1,5 @@
 -- `rows_in`: all that a block has room for, or what is left. Assumes nothing.
-use Rattle.numbers.specs.Library.{needs, arith}
+use Rattle.numbers.specs.Library.{needs}
 use Rattle.row_blocks.proofs.Places.{rows-left, rows-most}
 use Rattle.row_blocks.proofs.rows_in.Statement.{statement}
 use Rattle.row_blocks.proofs.rows_in.Tie as tie

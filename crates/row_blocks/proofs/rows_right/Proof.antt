@@ -1,6 +1,6 @@
 -- `rows_right`: the blocks so far are right. Assumes nothing.
-use Rattle.numbers.specs.Library.{ℕ, _≤_, _<_, _*_, _-_, needs, arith}
-use Rattle.numbers.specs.Prelude.{Decides, refuted, denied, allowed}
+use Rattle.numbers.specs.Library.{_≤_, _*_, _-_, arith}
+use Rattle.numbers.specs.Prelude.{refuted, denied, allowed}
 use Rattle.image_form.specs.Bytes.{wordsOf}
 use Rattle.row_blocks.specs.Layout.{AllRight}
 use Rattle.row_blocks.proofs.Places.{passed, part-long, none-right, one-right, right-there, all-right}

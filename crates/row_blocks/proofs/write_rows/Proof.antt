@@ -1,5 +1,5 @@
 -- `write_rows`: the blocks so far are written. Assumes nothing.
-use Rattle.numbers.specs.Library.{ℕ, _≤_, _<_, _*_, _-_, _≡_, ap, _∙_, needs, arith}
+use Rattle.numbers.specs.Library.{ℕ, _≤_, _*_, _-_, _≡_, ap, _∙_, arith}
 use Rattle.image_form.specs.Bytes.{bytesOf}
 use Rattle.image_form.proofs.Written.{Written, length-written, written-none, written-all}
 use Rattle.row_blocks.specs.Layout.{tableBlock}

@@ -2,7 +2,7 @@
 use Rattle.numbers.specs.Library.{List, ℕ, ap, _∙_, needs}
 use Rattle.image_form.specs.Bytes.{bytesOf}
 use Rattle.image_form.specs.Blocks.{block}
-use Rattle.image_form.specs.Form1.{form1, headerWords}
+use Rattle.image_form.specs.Form1.{form1}
 use Rattle.save.proofs.write_header.Statement.{statement}
 use Rattle.save.proofs.write_header.Tie as tie
 

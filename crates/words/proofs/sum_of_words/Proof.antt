@@ -1,5 +1,5 @@
 -- `sum_of_words`: the sum so far is that of the first words. Assumes nothing.
-use Rattle.numbers.specs.Library.{ℕ, _≤_, _/_, _-_, length, arith, needs}
+use Rattle.numbers.specs.Library.{_≤_, _/_, _-_, length, arith}
 use Rattle.image_form.specs.Bytes.{wordsOf}
 use Rattle.image_form.proofs.Words.{length-words}
 use Rattle.words.proofs.Over.{Summed, summed-none, summed-next, summed-all}

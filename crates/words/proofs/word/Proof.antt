@@ -1,5 +1,5 @@
 -- `word`: two bytes, each below 256. Assumes nothing.
-use Rattle.numbers.specs.Library.{needs, arith, sym}
+use Rattle.numbers.specs.Library.{needs, arith}
 use Rattle.image_form.proofs.Words.{word-at}
 use Rattle.words.proofs.word.Statement.{statement}
 use Rattle.words.proofs.word.Tie as tie

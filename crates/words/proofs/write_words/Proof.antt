@@ -1,5 +1,5 @@
 -- `write_words`: so far the first bytes are those of the first numbers. Assumes nothing.
-use Rattle.numbers.specs.Library.{ℕ, _≤_, _*_, _-_, length, length-set, arith}
+use Rattle.numbers.specs.Library.{_≤_, _*_, _-_, length, length-set, arith}
 use Rattle.image_form.specs.Bytes.{bytesOf}
 use Rattle.image_form.proofs.Words.{length-bytes}
 use Rattle.words.proofs.Over.{Over, over-none, over-word, over-all}

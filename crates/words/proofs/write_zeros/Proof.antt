@@ -1,5 +1,5 @@
 -- `write_zeros`: so far the first bytes are zero. Assumes nothing.
-use Rattle.numbers.specs.Library.{ℕ, _<_, _≤_, _-_, length, arith, sym}
+use Rattle.numbers.specs.Library.{_<_, _≤_, _-_, length, arith, sym}
 use lib.ListN.{replicate, length-replicate, getD-replicate}
 use Rattle.words.proofs.Over.{Over, over-none, over-next, over-all}
 use Rattle.words.proofs.write_zeros.Statement.{statement}
