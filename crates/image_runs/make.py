@@ -160,8 +160,9 @@ def cases():
     yield image_of((0,) * 11, [], []), 0, 0, False
 
 
-here = os.path.dirname(os.path.abspath(__file__))
-with open(os.path.join(here, 'stdin'), 'wb') as stdin, open(os.path.join(here, 'stdout'), 'w') as stdout:
-    for image, shelf_rows, item_rows, sound in cases():
-        stdin.write(struct.pack('<HHH', len(image), shelf_rows, item_rows) + image)
-        stdout.write(line(image, shelf_rows, item_rows, sound))
+if __name__ == '__main__':
+    here = os.path.dirname(os.path.abspath(__file__))
+    with open(os.path.join(here, 'stdin'), 'wb') as stdin, open(os.path.join(here, 'stdout'), 'w') as stdout:
+        for image, shelf_rows, item_rows, sound in cases():
+            stdin.write(struct.pack('<HHH', len(image), shelf_rows, item_rows) + image)
+            stdout.write(line(image, shelf_rows, item_rows, sound))

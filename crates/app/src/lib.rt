@@ -28,12 +28,12 @@ struct Turned {
     more: bool,
 }
 
-// Writes a text to standard output, unless that has failed before.
-fn hand_on(well: bool, text: &[u8]) -> bool {
+// Writes a text of answers, unless that has failed before.
+fn hand_on(to: i32, well: bool, text: &[u8]) -> bool {
     if !well {
         return false;
     }
-    if io::write_all(STDOUT_FILENO, text) {
+    if io::write_all(to, text) {
         return true;
     }
     io::write_all(STDERR_FILENO, b"script: standard output can't be written\n");
@@ -42,6 +42,7 @@ fn hand_on(well: bool, text: &[u8]) -> bool {
 
 // Answers the lines that end in `piece`, and writes the answers. It takes all of the piece, also where writing fails.
 fn reply(
+    to: i32,
     header0: Header,
     shelves: &mut [u16],
     items: &mut [u16],
@@ -78,16 +79,17 @@ fn reply(
         taken += f.taken;
         filled = f.filled;
         if filled > FULL {
-            well = hand_on(well, &out[0..filled]);
+            well = hand_on(to, well, &out[0..filled]);
             filled = 0;
         }
     }
-    let more = hand_on(well, &out[0..filled]);
+    let more = hand_on(to, well, &out[0..filled]);
     Turned { header, have, more }
 }
 
 // The end of the input: a last line without a newline is a line if it has a byte.
 fn finish(
+    to: i32,
     header: Header,
     shelves: &mut [u16],
     items: &mut [u16],
@@ -107,7 +109,7 @@ fn finish(
             more: false,
         };
     }
-    let t = reply(header, shelves, items, line, have, b"\n");
+    let t = reply(to, header, shelves, items, line, have, b"\n");
     let h = t.header;
     Turned {
         header: h,
@@ -118,6 +120,7 @@ fn finish(
 
 // Reads once, and answers what came.
 fn turn(
+    to: i32,
     header: Header,
     shelves: &mut [u16],
     items: &mut [u16],
@@ -141,16 +144,16 @@ fn turn(
         };
     }
     if got == 0 {
-        return finish(header, shelves, items, line, have);
+        return finish(to, header, shelves, items, line, have);
     }
     let n = io::count(got, &buf);
-    reply(header, shelves, items, line, have, &buf[0..n])
+    reply(to, header, shelves, items, line, have, &buf[0..n])
 }
 
-// The whole program.
-pub fn run() {
-    let mut shelves = [0u16; SHELVES];
-    let mut items = [0u16; ITEMS];
+// Reads standard input to its end and obeys its lines, from no atlas on; the answers go to `to`. What it returns is the header of the last atlas, which lies in the tables.
+pub fn obey(to: i32, shelves: &mut [u16], items: &mut [u16]) -> Header
+    requires { ⌜ length (now items) ≡ 18432 ⌝ }
+{
     let mut line = [0u8; 81];
     let mut header = header::no_header();
     let mut have: usize = 0;
@@ -158,10 +161,18 @@ pub fn run() {
     let mut more = true;
     while turns > 0 && more {
         turns -= 1;
-        let t = turn(header, &mut shelves, &mut items, &mut line, have);
+        let t = turn(to, header, shelves, items, &mut line, have);
         let h = t.header;
         header = h;
         have = t.have;
         more = t.more;
     }
+    header
+}
+
+// The whole program.
+pub fn run() {
+    let mut shelves = [0u16; SHELVES];
+    let mut items = [0u16; ITEMS];
+    obey(STDOUT_FILENO, &mut shelves, &mut items);
 }

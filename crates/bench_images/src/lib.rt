@@ -1,9 +1,9 @@
 // Save without the audit, load, and the audit alone, under names that a driver can link: for bench/images.sh, and no part of what a host is given.
 ghost use Rattle.hosts.specs.Values.{headerOf};
 ghost use Rattle.rules.specs.Prelude.{Passes};
-use image_promises::answers::Saving;
 use hosts::values;
 use hosts::values::AtlasHeader;
+use image_promises::answers::Saving;
 use promises::answers::Reply;
 
 // The image's length, or 0 where there is no room.

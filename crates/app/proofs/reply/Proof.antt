@@ -5,13 +5,13 @@ use Rattle.app.proofs.reply.Statement.{statement}
 use Rattle.app.proofs.reply.Tie as tie
 
 abbrev Inv-loop : tie.InvT-loop
-Inv-loop shelves₀ items₀ line₀ have0 piece out₀ header₀ have₀ well₀ taken₀ filled₀ shelves items line out header have well taken filled =
+Inv-loop to shelves₀ items₀ line₀ have0 piece out₀ header₀ have₀ well₀ taken₀ filled₀ shelves items line out header have well taken filled =
     Pending (take have0 line₀) (take taken piece) (record { header = header₀; shelves = shelves₀; items = items₀ }) (record { header = header; shelves = shelves; items = items }) (take have line) out filled
     × (taken ≤ length piece) × (have ≤ 81) × (length line ≡ 81) × (filled ≤ 51161) × (131072 ≡ length out) × (length piece < 18446744073709551616)
     × (length shelves ≡ length shelves₀) × (length items ≡ length items₀)
 
 abbrev μ-loop : tie.MeasureT-loop
-μ-loop shelves₀ items₀ line₀ have0 piece out₀ header₀ have₀ well₀ taken₀ filled₀ shelves items line out header have well taken filled = length piece - taken
+μ-loop to shelves₀ items₀ line₀ have0 piece out₀ header₀ have₀ well₀ taken₀ filled₀ shelves items line out header have well taken filled = length piece - taken
 
 loop-holds : tie.Need-loop-holds Inv-loop μ-loop
 loop-holds c =
