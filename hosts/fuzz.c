@@ -28,7 +28,7 @@ static const char *const names[KINDS] = {"create", "allocate", "release", "look-
 
 /* ---- what went wrong, and where */
 
-static uint64_t seed, wanted, calls, counts[KINDS][12], rules[8], on_damaged, on_random, on_short, on_null, on_large, replied[12];
+static uint64_t seed, wanted, calls, counts[KINDS][12], rules[8], on_damaged, on_random, on_short, on_null, on_large, on_longest, replied[12];
 static call_kind now;
 
 static void fail(const char *what) {
@@ -692,7 +692,7 @@ static void any_id(uint32_t rows, const uint16_t *items, uint16_t *row, uint16_t
 static void do_batch(plytimber_verdict verdict) {
     now = BATCH;
     /* Now and then more than can be answered, which are 65535: mostly of an unknown kind, as each is one call more. */
-    int longest = size_class() == 0 && verdict.answer == 0 && below(30000) == 0;
+    int longest = size_class() == 0 && verdict.answer == 0 && below(5000) == 0;
     uint32_t asked = longest ? 65530 + (uint32_t)below(10) : (uint32_t)below(below(50) ? 12 : 150), n = least(asked, PLYTIMBER_MOST_ROWS);
     room *list_room = longest ? &list_rooms[2] : list_part.in, *request_room = longest ? &request_rooms[2] : &request_rooms[size_class()];
     uint32_t records = below(4) ? asked + (uint32_t)below(3) : asked - (asked > 0);
@@ -737,6 +737,7 @@ static void do_batch(plytimber_verdict verdict) {
         size_t bytes = 2 * PLYTIMBER_REPLY_NUMBERS * (size_t)n;
         hold(memcmp(replies, list_part.at, bytes) == 0, "another reply than that of the single call");
         hold(same(&list_part, bytes, list_part.bytes), "replies past the last change");
+        on_longest += asked > n;
         for (uint32_t k = 0; k < n; k++) replied[replies[PLYTIMBER_REPLY_NUMBERS * k]]++;
     }
     if (list_part.in != lists) list_part = lend(lists, 0);
@@ -1046,8 +1047,8 @@ int main(int count, char **words) {
         else on_sound_tables(size);
     }
     printf("%llu calls, seed %llu, all as they must be\n", (unsigned long long)calls, (unsigned long long)seed);
-    printf("of them %llu on tables with one number changed, %llu on random tables, %llu on tables shorter than the used rows, %llu with a NULL of length 0, %llu on tables of up to 65540 rows\n",
-           (unsigned long long)on_damaged, (unsigned long long)on_random, (unsigned long long)on_short, (unsigned long long)on_null, (unsigned long long)on_large);
+    printf("of them %llu on tables with one number changed, %llu on random tables, %llu on tables shorter than the used rows, %llu with a NULL of length 0, %llu on tables of up to 65540 rows, %llu batches of more requests than are answered\n",
+           (unsigned long long)on_damaged, (unsigned long long)on_random, (unsigned long long)on_short, (unsigned long long)on_null, (unsigned long long)on_large, (unsigned long long)on_longest);
     printf("%-11s", "answer");
     for (int k = 0; k <= 11; k++) printf("%10d", k);
     printf("\n");
