@@ -821,7 +821,7 @@ static void restore(void) {
 /* ---- images: that of the atlas at hand as it is, and with something wrong in it */
 
 typedef enum { SOUND, BYTE, LENGTH, SWAPPED, DATA, CHECK_BLIND, HEADING, UNUSED, RANDOM, IMAGES } image_kind;
-static const char *const image_names[IMAGES] = {"sound", "a byte changed", "cut or longer", "blocks swapped", "a number changed and the check with it", "0 and 65535 exchanged, which the check can't see", "a block's heading changed and the check with it", "an unused byte and the check with it", "random"};
+static const char *const image_names[IMAGES] = {"sound", "a byte changed", "cut or longer", "blocks swapped", "a number changed and the check with it", "changed so that the check can't see it: 0 for 65535, or two numbers exchanged", "a block's heading changed and the check with it", "an unused byte and the check with it", "random"};
 static uint64_t images[IMAGES][12];
 
 /* Tables to load into: of the rows that are used and no more, one row short, or any that are enough; what is in them is random. */
@@ -874,6 +874,13 @@ static size_t change_image(image_kind kind, size_t length) {
         }
         break;
     case CHECK_BLIND:
+        if (below(2)) {
+            uint8_t *block = image + BLOCK * a;
+            size_t first = below(WORDS - 1), second = below(WORDS - 1);
+            uint16_t n = word(block, first);
+            put_word(block, first, word(block, second)), put_word(block, second, n);
+            break;
+        }
         for (k = any_word(blocks); word(image, k) != 0 && word(image, k) != 65535; k = any_word(blocks)) {}
         put_word(image, k, (uint16_t)~word(image, k));
         break;
