@@ -10,7 +10,7 @@
  *       in one point each: a load that answers 3 leaves the rows that it copied, and a refused batch gives back the header that it was given.
  *     - All calls but create, clear and load first audit header and tables, and answer 3 where they don't pass. Clear asks less: a
  *       header within the limits, and a row for each column in each table. Load audits what it has copied.
- *     - Where header and tables pass before a call, they pass after it.
+ *     - Where header and tables pass before a call, they pass after it; after a load with the header that it gives back, unless it answers 3.
  *     - Nothing is read or written outside of what is lent. Numbers past the used rows are not read, and are written only when
  *       a row is taken into use.
  *
@@ -51,7 +51,8 @@ enum {
 
 /* ---- tables
  *
- * A shelf row has 8 numbers, an item row 9, a record of a list 6, a request of a batch 3, its answer 7. A table has at most 65535 rows; what is lent beyond is not used.
+ * A shelf row has 8 numbers, an item row 9, a record of a list 6, a request of a batch 3, its reply 7. A table has at most 65535 rows; what
+ * is lent beyond is not used.
  * Create needs a row for each column in each table. 2N + C shelf rows and 4N + C item rows, with C columns, are enough for N items
  * at a time, whatever came before: a column has at most one more empty shelf than shelves in use, and a shelf at most one more free
  * stretch than items. Fewer will mostly do; then be ready for PLYTIMBER_TOO_FEW_ROWS.
@@ -150,9 +151,9 @@ plytimber_saved plytimber_save(plytimber_header header, const uint16_t *shelves,
  * table is touched. 3 is found after the rows are copied (every block is right, and yet it is no atlas): they stay, the one refusal that changes tables. */
 plytimber_loaded plytimber_load(const uint8_t *image, size_t image_bytes, uint16_t *shelves, size_t shelf_numbers, uint16_t *items, size_t item_numbers);
 
-/* 0 3 10. Allocate, release and look-up, many on one audit: three numbers a request (plytimber_request), seven an answer (plytimber_reply). Each is
+/* 0 3 10. Allocate, release and look-up, many on one audit: three numbers a request (plytimber_request), seven a reply (plytimber_reply). Each is
  * answered as its single call on what the one before it left, and one that is refused, or is of an unknown kind (11), doesn't stop those after it. Keep the header
- * that comes back. 3, then 10 where there are fewer answers than requests, change nothing. Of a longer list the first 65535 requests are answered; answers past
+ * that comes back. 3, then 10 where there are fewer replies than requests, change nothing. Of a longer list the first 65535 requests are answered; replies past
  * the last stay as they were. */
 plytimber_batched plytimber_batch(plytimber_header header, uint16_t *shelves, size_t shelf_numbers, uint16_t *items, size_t item_numbers,
                                   const uint16_t *requests, size_t request_numbers, uint16_t *replies, size_t reply_numbers);

@@ -247,7 +247,8 @@ fn saved_and_loaded() {
         assert!(item_rows > 28, "more than one block of items");
         assert_eq!(image.len(), image_bytes(shelf_rows, item_rows));
         // In tables of all rows, of another length, and of just the rows that are used.
-        let loaded = [AtlasAllocator::load(&image), AtlasAllocator::load_with_rows(&image, 150, 300), AtlasAllocator::load_with_rows(&image, shelf_rows, item_rows)];
+        let loaded =
+            [AtlasAllocator::load(&image), AtlasAllocator::load_with_rows(&image, 150, 300), AtlasAllocator::load_with_rows(&image, shelf_rows, item_rows)];
         for again in loaded.map(Result::unwrap) {
             assert_eq!((again.parts().0, again.save()), (atlas.parts().0, image.clone()));
             assert_eq!(again.iter().collect::<Vec<_>>(), atlas.iter().collect::<Vec<_>>());
