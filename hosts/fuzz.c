@@ -2,7 +2,7 @@
  *
  *     fuzz CALLS SEED
  *
- * Header, tables and list lie between two pages that can't be touched, flush with one of them by turns; what is left over of the pages between is
+ * Header, tables, lists and image lie between two pages that can't be touched, flush with one of them by turns; what is left over of the pages between is
  * compared after each call. Under valgrind it is marked as not to be touched, and numbers past the used rows as not to be read. Ends with 1 and
  * says which call it was where anything is not as it must be. */
 #define _DEFAULT_SOURCE
@@ -23,12 +23,12 @@
 #define VALGRIND_CHECK_MEM_IS_DEFINED(at, bytes) 0
 #endif
 
-typedef enum { CREATE, ALLOCATE, RELEASE, LOOK_UP, LIST, CLEAR, OCCUPIED, FREE_SPACE, SIZE, IS_EMPTY, AUDIT, KINDS } call_kind;
-static const char *const names[KINDS] = {"create", "allocate", "release", "look-up", "list", "clear", "occupied", "free space", "size", "is_empty", "audit"};
+typedef enum { CREATE, ALLOCATE, RELEASE, LOOK_UP, LIST, CLEAR, OCCUPIED, FREE_SPACE, SIZE, IS_EMPTY, AUDIT, SAVE, LOAD, BATCH, KINDS } call_kind;
+static const char *const names[KINDS] = {"create", "allocate", "release", "look-up", "list", "clear", "occupied", "free space", "size", "is_empty", "audit", "save", "load", "batch"};
 
 /* ---- what went wrong, and where */
 
-static uint64_t seed, wanted, calls, counts[KINDS][12], rules[8], on_damaged, on_random, on_short, on_null, on_large;
+static uint64_t seed, wanted, calls, counts[KINDS][12], rules[8], on_damaged, on_random, on_short, on_null, on_large, on_longest, replied[12];
 static call_kind now;
 
 static void fail(const char *what) {
@@ -73,7 +73,9 @@ static int32_t any32(void) {
 typedef struct { uint8_t *page, *was, *saved; size_t bytes; } room;
 
 enum { PAGE = 4096, SMALL = 1, MIDDLE = 64, LARGE = 300, CANARY = 0xa5 };
-static room header_room, shelf_rooms[3], item_rooms[3], list_rooms[3];
+/* The longest image of a size class's tables, and some bytes more. */
+static const size_t image_pages[3] = {2, 64, 570};
+static room header_room, shelf_rooms[3], item_rooms[3], list_rooms[3], image_rooms[3], request_rooms[3];
 
 static room open_room(size_t pages) {
     room r = {.bytes = pages * PAGE};
@@ -89,8 +91,12 @@ static room open_room(size_t pages) {
 }
 
 typedef struct { room *in; uint8_t *at; size_t bytes; } part;
-static part header_part, shelf_part, item_part, list_part;
-static part *const parts[4] = {&header_part, &shelf_part, &item_part, &list_part};
+static part header_part, shelf_part, item_part, list_part, image_part, request_part;
+enum { PARTS = 6 };
+static part *const parts[PARTS] = {&header_part, &shelf_part, &item_part, &list_part, &image_part, &request_part};
+
+/* Is part k lent to the call? Images and requests are to some calls only; the list of a batch is that of its replies. */
+static int is_lent(int k) { return k < 4 || (k == 4 ? now == SAVE || now == LOAD : now == BATCH); }
 
 static part lend(room *r, size_t bytes) {
     part p = {r, below(2) ? r->page + r->bytes - bytes : r->page, bytes};
@@ -108,7 +114,7 @@ static void lend_tables(int size, size_t shelf_numbers, size_t item_numbers, siz
 static plytimber_header *header(void) { return (plytimber_header *)header_part.at; }
 static size_t numbers(part p) { return p.bytes / 2; }
 /* With a length of 0 the pointer may be NULL: by turns it is. */
-static uint16_t *at(part p) { return p.bytes == 0 && (calls & 1) ? NULL : (uint16_t *)p.at; }
+static void *at(part p) { return p.bytes == 0 && (calls & 1) ? NULL : p.at; }
 static uint16_t shelf(unsigned row, int k) { return ((uint16_t *)shelf_part.at)[PLYTIMBER_SHELF_NUMBERS * row + k]; }
 static uint16_t item(unsigned row, int k) { return ((uint16_t *)item_part.at)[PLYTIMBER_ITEM_NUMBERS * row + k]; }
 #define TABLES at(shelf_part), numbers(shelf_part), at(item_part), numbers(item_part)
@@ -119,20 +125,23 @@ static uint32_t item_rows(void) { return least(numbers(item_part) / PLYTIMBER_IT
 
 static size_t used_bytes(part *p) {
     if (p == &header_part) return p->bytes;
-    if (p == &list_part) return 0;
+    if (p == &list_part || (p == &image_part && now == SAVE)) return 0;
+    if (p == &image_part || p == &request_part) return p->bytes;
     size_t used = p == &shelf_part ? 2u * PLYTIMBER_SHELF_NUMBERS * header()->used_shelves : 2u * PLYTIMBER_ITEM_NUMBERS * header()->used_items;
     return used < p->bytes ? used : p->bytes;
 }
 
-/* Create and clear read no table. */
-static int reads_tables(void) { return now != CREATE && now != CLEAR; }
+/* Create and clear read no table, and load none that it has not written. */
+static int reads_tables(void) { return now != CREATE && now != CLEAR && now != LOAD; }
+static int is_table(part *p) { return p == &shelf_part || p == &item_part; }
 
 /* Before a call: what is there is kept, and valgrind is told what may be touched (all that is lent) and read (the used rows). */
 static void keep(void) {
-    for (int k = 0; k < 4; k++) {
+    for (int k = 0; k < PARTS; k++) {
         part *p = parts[k];
+        if (!is_lent(k)) continue;
         memcpy(p->in->was, p->in->page, p->in->bytes);
-        size_t used = p == &header_part || reads_tables() ? used_bytes(p) : 0;
+        size_t used = is_table(p) && !reads_tables() ? 0 : used_bytes(p);
         VALGRIND_MAKE_MEM_NOACCESS(p->in->page, p->at - p->in->page);
         VALGRIND_MAKE_MEM_NOACCESS(p->at + p->bytes, p->in->page + p->in->bytes - p->at - p->bytes);
         VALGRIND_MAKE_MEM_UNDEFINED(p->at + used, p->bytes - used);
@@ -140,8 +149,9 @@ static void keep(void) {
 }
 
 static void look_again(uint32_t answer) {
-    for (int k = 0; k < 4; k++) {
+    for (int k = 0; k < PARTS; k++) {
         part *p = parts[k];
+        if (!is_lent(k)) continue;
         if (answer == 0 || reads_tables()) hold(!VALGRIND_CHECK_MEM_IS_DEFINED(p->at, used_bytes(p)), "what it wrote comes from numbers that nobody wrote");
         VALGRIND_MAKE_MEM_DEFINED(p->in->page, p->in->bytes);
     }
@@ -151,8 +161,9 @@ static int same(part *p, size_t from, size_t to) { return memcmp(p->at + from, p
 static void nothing_changed(part *p, const char *what) { hold(same(p, 0, p->bytes), what); }
 
 static void canaries(void) {
-    for (int k = 0; k < 4; k++) {
+    for (int k = 0; k < PARTS; k++) {
         part *p = parts[k];
+        if (!is_lent(k)) continue;
         size_t before = p->at - p->in->page, after = before + p->bytes;
         hold(memcmp(p->in->page, p->in->was, before) == 0 && memcmp(p->in->page + after, p->in->was + after, p->in->bytes - after) == 0, "writes outside of what was lent");
     }
@@ -337,19 +348,25 @@ static plytimber_header header_before(void) { return *(plytimber_header *)(heade
 /* After every call: nothing outside is touched, a refusal changes nothing, what passed passes, numbers past the used rows stay. */
 static void after(uint32_t answer, uint32_t expected, plytimber_verdict verdict) {
     look_again(answer);
-    on_null += at(shelf_part) == NULL || at(item_part) == NULL || (now == LIST && at(list_part) == NULL);
+    on_null += at(shelf_part) == NULL || at(item_part) == NULL || ((now == LIST || now == BATCH) && at(list_part) == NULL) ||
+               ((now == SAVE || now == LOAD) && at(image_part) == NULL) || (now == BATCH && at(request_part) == NULL);
     on_large += shelf_part.in == &shelf_rooms[2];
     calls++;
     hold(answer == expected, "another answer than document 01's");
     counts[now][answer]++;
     canaries();
-    int changes = now == CREATE || now == ALLOCATE || now == RELEASE || now == CLEAR;
+    int changes = now == CREATE || now == ALLOCATE || now == RELEASE || now == CLEAR || now == LOAD || now == BATCH;
     if (answer != 0 || !changes) {
         nothing_changed(&header_part, "changes the header");
-        nothing_changed(&shelf_part, "changes the shelf table");
-        nothing_changed(&item_part, "changes the item table");
+        /* The one refusal that changes tables: do_load knows how. */
+        if (now != LOAD || answer != 3) {
+            nothing_changed(&shelf_part, "changes the shelf table");
+            nothing_changed(&item_part, "changes the item table");
+        }
     }
-    if (answer != 0 || now != LIST) nothing_changed(&list_part, "changes the list");
+    if (answer != 0 || (now != LIST && now != BATCH)) nothing_changed(&list_part, "changes the list");
+    if (now == LOAD || (now == SAVE && answer != 0)) nothing_changed(&image_part, "changes the image");
+    if (now == BATCH) nothing_changed(&request_part, "changes the requests");
     if (answer == 0 && changes) {
         const plytimber_header *h = header();
         hold(same(&shelf_part, 2u * PLYTIMBER_SHELF_NUMBERS * h->used_shelves, shelf_part.bytes), "changes shelf numbers past the used rows");
@@ -515,6 +532,139 @@ static void do_tell(call_kind kind, plytimber_verdict verdict) {
     }
 }
 
+/* ---- the saved form once more */
+
+enum { BLOCK = 512, WORDS = 256, LONGEST = 512 * (1 + 2115 + 2341) };
+static uint8_t image[LONGEST + 2 * BLOCK]; /* the image that is at hand */
+
+static uint16_t word(const uint8_t *block, size_t k) { return (uint16_t)(block[2 * k] | block[2 * k + 1] << 8); }
+static void put_word(uint8_t *block, size_t k, uint16_t n) { block[2 * k] = (uint8_t)n, block[2 * k + 1] = (uint8_t)(n >> 8); }
+
+static uint16_t check_of(const uint8_t *block) {
+    uint32_t sum = 0;
+    for (size_t k = 0; k < WORDS - 1; k++) sum += word(block, k);
+    return (uint16_t)(sum % 65535);
+}
+
+static void put_check(uint8_t *block) { put_word(block, WORDS - 1, check_of(block)); }
+
+static void put_block(size_t number, unsigned kind, unsigned rows, const uint16_t *numbers, size_t count) {
+    uint8_t *block = image + BLOCK * number;
+    memset(block, 0, BLOCK);
+    put_word(block, 0, (uint16_t)number);
+    block[2] = 1, block[3] = (uint8_t)kind;
+    put_word(block, 2, (uint16_t)rows);
+    for (size_t k = 0; k < count; k++) put_word(block, 3 + k, numbers[k]);
+    put_check(block);
+}
+
+static size_t put_rows(size_t number, unsigned kind, unsigned most, unsigned width, const uint16_t *numbers, uint32_t used) {
+    for (uint32_t row = 0; row < used; row += most, number++) {
+        unsigned rows = least(most, used - row);
+        put_block(number, kind, rows, numbers + (size_t)width * row, (size_t)width * rows);
+    }
+    return number;
+}
+
+/* The image of the atlas that is lent, and its length. */
+static size_t image_of(void) {
+    const plytimber_header *h = header();
+    const uint16_t first[12] = {h->width, h->height, h->align_width, h->align_height, h->vertical, h->shelf_width, h->used_shelves, h->used_items, h->free_items, h->free_shelves, (uint16_t)h->occupied, (uint16_t)(h->occupied >> 16)};
+    put_block(0, 0, 1, first, 12);
+    size_t blocks = put_rows(1, 1, 31, PLYTIMBER_SHELF_NUMBERS, (uint16_t *)shelf_part.at, h->used_shelves);
+    return BLOCK * put_rows(blocks, 2, 28, PLYTIMBER_ITEM_NUMBERS, (uint16_t *)item_part.at, h->used_items);
+}
+
+static int block_right(const uint8_t *block, size_t number, unsigned kind, unsigned rows, size_t numbers) {
+    for (size_t k = 3 + numbers; k < WORDS - 1; k++) {
+        if (word(block, k)) return 0;
+    }
+    return word(block, 0) == number && block[2] == 1 && block[3] == kind && word(block, 2) == rows && word(block, WORDS - 1) == check_of(block);
+}
+
+/* Blocks of used rows: are they exactly so? Where a table is given, its first rows become those of the blocks. */
+static int read_rows(const uint8_t *from, size_t number, unsigned kind, unsigned most, unsigned width, uint32_t used, uint16_t *table) {
+    for (uint32_t row = 0; row < used; row += most, number++) {
+        unsigned rows = least(most, used - row);
+        const uint8_t *block = from + BLOCK * number;
+        if (!block_right(block, number, kind, rows, (size_t)width * rows)) return 0;
+        for (size_t k = 0; table && k < (size_t)width * rows; k++) table[(size_t)width * row + k] = word(block, 3 + k);
+    }
+    return 1;
+}
+
+/* 9, 7, or 0 where the rows go to the tables, which are yet to be audited; the header that stands in the image. */
+static uint32_t image_answer(const uint8_t *from, size_t bytes, plytimber_header *h) {
+    if (bytes < BLOCK || !block_right(from, 0, 0, 1, 12)) return 9;
+    *h = (plytimber_header){word(from, 3), word(from, 4), word(from, 5), word(from, 6), word(from, 7), word(from, 8), word(from, 9), word(from, 10), word(from, 11), word(from, 12), word(from, 13) | (uint32_t)word(from, 14) << 16};
+    size_t second = 1 + (h->used_shelves + 30) / 31;
+    if (bytes != PLYTIMBER_IMAGE_BYTES(h->used_shelves, h->used_items)) return 9;
+    if (!read_rows(from, 1, 1, 31, PLYTIMBER_SHELF_NUMBERS, h->used_shelves, NULL) || !read_rows(from, second, 2, 28, PLYTIMBER_ITEM_NUMBERS, h->used_items, NULL)) return 9;
+    return h->used_shelves > shelf_rows() || h->used_items > item_rows() ? 7 : 0;
+}
+
+static int size_class(void) { return (int)(shelf_part.in - shelf_rooms); }
+
+static void do_save(plytimber_verdict verdict) {
+    now = SAVE;
+    /* As long as it needs, a byte less, or some more; anything where there is no image. */
+    size_t length = verdict.answer ? below(3000) : image_of(), most = image_rooms[size_class()].bytes;
+    size_t room = below(4) == 0 ? length : below(3) == 0 ? length - (length > 0) : below(4) ? length + below(700) : below(length + 1);
+    image_part = lend(&image_rooms[size_class()], room < most ? room : most);
+    keep();
+    plytimber_saved told = plytimber_save(*header(), TABLES, at(image_part), image_part.bytes);
+    hold(!VALGRIND_CHECK_MEM_IS_DEFINED(&told, sizeof told), "it tells numbers that nobody wrote");
+    hold(told.answer || told.length > image_part.bytes || !VALGRIND_CHECK_MEM_IS_DEFINED(image_part.at, told.length), "it saves numbers that nobody wrote");
+    after(told.answer, verdict.answer ? 3 : length > image_part.bytes ? 10 : 0, verdict);
+    ZEROS(told);
+    if (told.answer) return;
+    hold(told.length == length, "another length");
+    hold(memcmp(image_part.at, image, length) == 0, "another image than document 01's");
+    hold(same(&image_part, length, image_part.bytes), "bytes past the image change");
+}
+
+/* What the tables must be after a call, or were before it. */
+static uint16_t other_shelves[LARGE * PAGE / 2], other_items[LARGE * PAGE / 2];
+
+static void swap(uint16_t *other, part p) {
+    for (size_t k = 0; k < numbers(p); k++) {
+        uint16_t n = other[k];
+        other[k] = ((uint16_t *)p.at)[k];
+        ((uint16_t *)p.at)[k] = n;
+    }
+}
+
+/* Load of the first bytes of the image at hand. */
+static uint32_t do_load(size_t bytes) {
+    now = LOAD;
+    image_part = lend(&image_rooms[size_class()], bytes);
+    if (bytes) memcpy(image_part.at, image, bytes);
+    plytimber_header h, was = *header();
+    uint32_t expected = image_answer(image, bytes, &h);
+    int copied = expected == 0;
+    if (copied) {
+        /* The rows go in and are audited by the second reading; then the tables are put back, and this is kept to compare with. */
+        memcpy(other_shelves, shelf_part.at, shelf_part.bytes);
+        memcpy(other_items, item_part.at, item_part.bytes);
+        read_rows(image, 1, 1, 31, PLYTIMBER_SHELF_NUMBERS, h.used_shelves, (uint16_t *)shelf_part.at);
+        read_rows(image, 1 + (h.used_shelves + 30) / 31, 2, 28, PLYTIMBER_ITEM_NUMBERS, h.used_items, (uint16_t *)item_part.at);
+        *header() = h;
+        expected = audit_answer().answer;
+        *header() = was;
+        swap(other_shelves, shelf_part);
+        swap(other_items, item_part);
+    }
+    keep();
+    plytimber_loaded told = plytimber_load(at(image_part), image_part.bytes, TABLES);
+    hold(!VALGRIND_CHECK_MEM_IS_DEFINED(&told, sizeof told), "it tells numbers that nobody wrote");
+    if (told.answer == 0) *header() = told.header;
+    after(told.answer, expected, (plytimber_verdict){3, 0});
+    ZEROS(told);
+    hold(told.answer || memcmp(&told.header, &h, sizeof h) == 0, "another header than that of the image");
+    hold(!copied || (memcmp(other_shelves, shelf_part.at, shelf_part.bytes) == 0 && memcmp(other_items, item_part.at, item_part.bytes) == 0), "the tables are not the image's rows, and past them what was there");
+    return told.answer;
+}
+
 /* ---- random calls on whatever header and tables are lent */
 
 static int32_t any_side(uint32_t along) {
@@ -527,29 +677,93 @@ static int32_t any_side(uint32_t along) {
     }
 }
 
+static void fill(part p, unsigned bound) {
+    for (size_t k = 0; k < numbers(p); k++) ((uint16_t *)p.at)[k] = below(8) == 0 ? 65535 : bound == 0 ? any16() : (uint16_t)below(bound);
+}
+
+/* A row with the generation that stands there, which is live or was; else one that is not. */
+static void any_id(uint32_t rows, const uint16_t *items, uint16_t *row, uint16_t *generation) {
+    *row = rows && below(12) ? (uint16_t)below(rows) : any16();
+    *generation = *row < rows ? items[PLYTIMBER_ITEM_NUMBERS * *row + 8] : any16();
+    if (below(16) == 0) *generation = below(2) ? any16() : (uint16_t)(*generation + 1);
+}
+
+/* Requests that are made up one after the other, each answered by its single call on a copy, from which the next is made up; then all in one batch. */
+static void do_batch(plytimber_verdict verdict) {
+    now = BATCH;
+    /* Now and then more than can be answered, which are 65535: mostly of an unknown kind, as each is one call more. */
+    int longest = size_class() == 0 && verdict.answer == 0 && below(5000) == 0;
+    uint32_t asked = longest ? 65530 + (uint32_t)below(10) : (uint32_t)below(below(50) ? 12 : 150), n = least(asked, PLYTIMBER_MOST_ROWS);
+    room *list_room = longest ? &list_rooms[2] : list_part.in, *request_room = longest ? &request_rooms[2] : &request_rooms[size_class()];
+    uint32_t records = below(4) ? asked + (uint32_t)below(3) : asked - (asked > 0);
+    static uint16_t replies[PLYTIMBER_REPLY_NUMBERS * 65540];
+    request_part = lend(request_room, 2 * (PLYTIMBER_REQUEST_NUMBERS * (size_t)asked + below(3)));
+    fill(request_part, 0);
+    plytimber_header h = *header();
+    memcpy(other_shelves, shelf_part.at, shelf_part.bytes);
+    memcpy(other_items, item_part.at, item_part.bytes);
+    for (uint32_t k = 0; k < n; k++) {
+        uint16_t *request = (uint16_t *)request_part.at + PLYTIMBER_REQUEST_NUMBERS * k, *reply = replies + PLYTIMBER_REPLY_NUMBERS * k;
+        uint64_t kind = longest && below(50) ? 99 : below(20);
+        request[0] = kind < 9 ? 1 : kind < 15 ? 2 : kind < 19 ? 3 : below(2) ? 0 : (uint16_t)(4 + below(65532));
+        if (request[0] == 1) {
+            request[1] = (uint16_t)any_side(h.vertical == 1 ? h.height : h.shelf_width), request[2] = (uint16_t)any_side(h.vertical == 1 ? h.shelf_width : h.height);
+        } else {
+            any_id(least(h.used_items, item_rows()), other_items, request + 1, request + 2);
+        }
+        if (verdict.answer) continue;
+        plytimber_grant told = {.answer = 11};
+        if (request[0] == 1) told = plytimber_allocate(&h, other_shelves, numbers(shelf_part), other_items, numbers(item_part), request[1], request[2]);
+        else if (request[0] == 2) told.answer = plytimber_release(&h, other_shelves, numbers(shelf_part), other_items, numbers(item_part), request[1], request[2]);
+        else if (request[0] == 3) told = plytimber_look_up(h, other_shelves, numbers(shelf_part), other_items, numbers(item_part), request[1], request[2]);
+        const uint32_t all[PLYTIMBER_REPLY_NUMBERS] = {told.answer, told.row, told.generation, told.x0, told.y0, told.x1, told.y1};
+        for (int j = 0; j < PLYTIMBER_REPLY_NUMBERS; j++) reply[j] = (uint16_t)all[j];
+    }
+    room *lists = list_part.in;
+    list_part = lend(list_room, 2 * (PLYTIMBER_REPLY_NUMBERS * (size_t)records + below(7)));
+    keep();
+    const plytimber_header given = *header();
+    plytimber_batched told = plytimber_batch(given, TABLES, at(request_part), numbers(request_part), at(list_part), numbers(list_part));
+    hold(!VALGRIND_CHECK_MEM_IS_DEFINED(&told, sizeof told), "it tells numbers that nobody wrote");
+    hold(told.answer || told.count > n || !VALGRIND_CHECK_MEM_IS_DEFINED(list_part.at, 2 * PLYTIMBER_REPLY_NUMBERS * (size_t)told.count), "it replies numbers that nobody wrote");
+    if (told.answer == 0) *header() = told.header;
+    after(told.answer, verdict.answer ? 3 : n > numbers(list_part) / PLYTIMBER_REPLY_NUMBERS ? 10 : 0, verdict);
+    if (told.answer) {
+        hold(told.count == 0 && memcmp(&told.header, &given, sizeof given) == 0, "a refusal tells more than its number and the header that was given");
+    } else {
+        hold(told.count == n, "another count");
+        hold(memcmp(&told.header, &h, sizeof h) == 0, "another header than that of the single calls");
+        hold(memcmp(other_shelves, shelf_part.at, shelf_part.bytes) == 0 && memcmp(other_items, item_part.at, item_part.bytes) == 0, "other tables than those of the single calls");
+        size_t bytes = 2 * PLYTIMBER_REPLY_NUMBERS * (size_t)n;
+        hold(memcmp(replies, list_part.at, bytes) == 0, "another reply than that of the single call");
+        hold(same(&list_part, bytes, list_part.bytes), "replies past the last change");
+        on_longest += asked > n;
+        for (uint32_t k = 0; k < n; k++) replied[replies[PLYTIMBER_REPLY_NUMBERS * k]]++;
+    }
+    if (list_part.in != lists) list_part = lend(lists, 0);
+}
+
 static void any_call(plytimber_verdict verdict) {
     const plytimber_header *h = header();
     uint64_t kind = below(100);
-    if (kind < 42) {
+    if (kind < 40) {
         do_allocate(verdict, any_side(h->vertical == 1 ? h->height : h->shelf_width), any_side(h->vertical == 1 ? h->shelf_width : h->height));
-    } else if (kind < 82) {
-        /* A row with the generation that stands there, which is live or was; else one that is not. */
-        uint32_t rows = least(h->used_items, item_rows());
-        uint16_t row = rows && below(12) ? (uint16_t)below(rows) : any16(), generation = row < rows ? item(row, 8) : any16();
-        if (below(16) == 0) generation = below(2) ? any16() : (uint16_t)(generation + 1);
-        if (kind < 70) do_release(verdict, row, generation);
+    } else if (kind < 74) {
+        uint16_t row, generation;
+        any_id(least(h->used_items, item_rows()), (uint16_t *)item_part.at, &row, &generation);
+        if (kind < 64) do_release(verdict, row, generation);
         else do_look_up(verdict, row, generation);
-    } else if (kind < 88) {
+    } else if (kind < 79) {
         do_list(verdict);
-    } else if (kind == 88) {
+    } else if (kind == 79) {
         if (below(8) == 0 || verdict.answer) do_clear(verdict);
+    } else if (kind < 84) {
+        do_save(verdict);
+    } else if (kind < 90) {
+        do_batch(verdict);
     } else {
         do_tell((call_kind)(OCCUPIED + below(5)), verdict);
     }
-}
-
-static void fill(part p, unsigned bound) {
-    for (size_t k = 0; k < numbers(p); k++) ((uint16_t *)p.at)[k] = below(8) == 0 ? 65535 : bound == 0 ? any16() : (uint16_t)below(bound);
 }
 
 /* One number of header, shelf table or item table, mostly a used one. */
@@ -604,6 +818,146 @@ static void restore(void) {
     for (int k = 0; k < 3; k++) memcpy(parts[k]->in->page, parts[k]->in->saved, parts[k]->in->bytes);
 }
 
+/* ---- images: that of the atlas at hand as it is, and with something wrong in it */
+
+typedef enum { SOUND, BYTE, LENGTH, SWAPPED, DATA, CHECK_BLIND, HEADING, UNUSED, RANDOM, IMAGES } image_kind;
+static const char *const image_names[IMAGES] = {"sound", "a byte changed", "cut or longer", "blocks swapped", "a number changed and the check with it", "changed so that the check can't see it: 0 for 65535, or two numbers exchanged", "a block's heading changed and the check with it", "an unused byte and the check with it", "random"};
+static uint64_t images[IMAGES][12];
+
+/* Tables to load into: of the rows that are used and no more, one row short, or any that are enough; what is in them is random. */
+static uint32_t lend_other(part *p, unsigned width, uint32_t used) {
+    size_t most = p->in->bytes / 2, rows = used, kind = below(8);
+    if (kind == 0 && used > 0) rows = used - 1;
+    else if (kind > 3) rows += below(most / width - used + 1);
+    size_t length = rows * width + below(width);
+    *p = lend(p->in, 2 * (length < most ? length : most));
+    fill(*p, 0);
+    return kind == 0 && used > 0;
+}
+
+static size_t any_word(size_t blocks) { return WORDS * below(blocks) + below(WORDS - 1); }
+
+/* Something is done to the image at hand; the length that it then has. */
+static size_t change_image(image_kind kind, size_t length) {
+    size_t blocks = length / BLOCK, a = below(blocks), b = below(blocks), k;
+    uint8_t kept[BLOCK];
+    switch (kind) {
+    case BYTE: image[below(length)] ^= (uint8_t)(1 + below(255)); break;
+    case LENGTH:
+        for (k = 0; k < BLOCK; k++) image[length + k] = below(2) ? 0 : (uint8_t)below(256);
+        switch (below(5)) {
+        case 0: return length - 1;
+        case 1: return length + 1;
+        case 2: return length - BLOCK;
+        case 3: return length + BLOCK;
+        default: return below(length);
+        }
+    case SWAPPED:
+        memcpy(kept, image + BLOCK * a, BLOCK);
+        memcpy(image + BLOCK * a, image + BLOCK * b, BLOCK);
+        memcpy(image + BLOCK * b, kept, BLOCK);
+        if (a == b) image[BLOCK * a] ^= 1;
+        /* At times they get the numbers of their places, so that only their kind or their rows can tell. */
+        if (a != b && below(2)) {
+            put_word(image + BLOCK * a, 0, (uint16_t)a), put_word(image + BLOCK * b, 0, (uint16_t)b);
+            put_check(image + BLOCK * a), put_check(image + BLOCK * b);
+        }
+        break;
+    case DATA:
+        for (uint64_t times = 1 + below(2); times > 0; times--) {
+            k = any_word(blocks);
+            uint8_t *block = image + BLOCK * (k / WORDS);
+            /* Mostly in the rows, as the header has the counts. */
+            unsigned used = block[3] == 0 ? 12 : word(block, 2) * (block[3] == 1 ? 8u : 9u), which = 3 + (unsigned)below(used ? used : 1);
+            put_word(block, which, below(3) ? (uint16_t)(word(block, which) + (below(2) ? 1 : -1)) : below(2) ? any16() : (uint16_t)below(20));
+            put_check(block);
+        }
+        break;
+    case CHECK_BLIND:
+        if (below(2)) {
+            uint8_t *block = image + BLOCK * a;
+            size_t first = below(WORDS - 1), second = below(WORDS - 1);
+            uint16_t n = word(block, first);
+            put_word(block, first, word(block, second)), put_word(block, second, n);
+            break;
+        }
+        for (k = any_word(blocks); word(image, k) != 0 && word(image, k) != 65535; k = any_word(blocks)) {}
+        put_word(image, k, (uint16_t)~word(image, k));
+        break;
+    case HEADING:
+        image[BLOCK * a + below(6)] ^= (uint8_t)(1 + below(255));
+        put_check(image + BLOCK * a);
+        break;
+    case UNUSED:
+        a = blocks - 1;
+        k = 3u + word(image + BLOCK * a, 2) * (image[BLOCK * a + 3] == 1 ? 8u : 9u);
+        if (a == 0 || k > WORDS - 2 || below(3) == 0) a = 0, k = 15;
+        image[BLOCK * a + 2 * k + below(2 * (WORDS - 1 - k))] = (uint8_t)(1 + below(255));
+        put_check(image + BLOCK * a);
+        break;
+    case RANDOM:
+        blocks = below(9);
+        for (k = 0; k < BLOCK * (blocks + 1); k++) image[k] = (uint8_t)below(below(2) ? 256 : 3);
+        /* At times blocks that are right one by one, under a header of a few rows. */
+        for (a = 0; below(3) && a < blocks; a++) {
+            for (k = 3; k < WORDS - 1; k++) put_word(image + BLOCK * a, k, k < (a ? 200 : 15) ? (uint16_t)below(below(4) ? 9 : 65536) : 0);
+            put_word(image + BLOCK * a, 0, (uint16_t)a);
+            image[BLOCK * a + 2] = 1, image[BLOCK * a + 3] = (uint8_t)(a < 2 ? a : 2);
+            put_word(image + BLOCK * a, 2, a ? (uint16_t)(1 + below(31)) : 1);
+            put_check(image + BLOCK * a);
+        }
+        if (blocks == 3 && below(2)) {
+            /* Its rows are as the header says: what is wrong is for the audit to find. */
+            unsigned s = 1 + (unsigned)below(31), i = 1 + (unsigned)below(28);
+            uint16_t numbers[WORDS];
+            for (k = 0; k < WORDS; k++) numbers[k] = (uint16_t)below(below(4) ? 9 : 65536);
+            put_block(1, 1, s, numbers, 8 * s);
+            put_block(2, 2, i, numbers, 9 * i);
+            uint16_t first[12] = {(uint16_t)(1 + below(300)), (uint16_t)(1 + below(300)), 1, 1, (uint16_t)below(2), 1, (uint16_t)s, (uint16_t)i, any16(), any16(), (uint16_t)below(9), 0};
+            put_block(0, 0, 1, first, 12);
+            return BLOCK * 3;
+        }
+        return BLOCK * blocks + (below(4) ? 0 : below(BLOCK));
+    default: break;
+    }
+    return length;
+}
+
+/* The image of the atlas at hand, mostly changed, is loaded into other tables. The atlas is put back. */
+static void on_image(void) {
+    part shelf_whole = shelf_part, item_whole = item_part;
+    plytimber_header h = *header();
+    save();
+    size_t length = image_of();
+    image_kind kind = (image_kind)below(IMAGES);
+    if (size_class() == 2 && kind == RANDOM) kind = SOUND;
+    int few = (int)lend_other(&shelf_part, PLYTIMBER_SHELF_NUMBERS, h.used_shelves) | (int)lend_other(&item_part, PLYTIMBER_ITEM_NUMBERS, h.used_items);
+    if (size_class() == 0 && below(4000) == 0) {
+        /* Every byte, one after the other. */
+        for (size_t k = 0; k < length; k++) {
+            uint8_t was = image[k];
+            image[k] ^= (uint8_t)(1 + below(255));
+            hold(do_load(length) == 9, "a changed byte is not seen");
+            images[BYTE][9]++;
+            image[k] = was;
+        }
+        kind = SOUND;
+    }
+    uint32_t answer = do_load(change_image(kind, length));
+    images[kind][answer]++;
+    /* What follows from 01 without the second reading. */
+    if (kind == SOUND) hold(answer == (few ? 7u : 0u), "a sound image");
+    if (kind == BYTE || kind == LENGTH || kind == UNUSED || kind == HEADING) hold(answer == 9, "an image that is not exactly so");
+    if (kind == SOUND && answer == 0) {
+        /* It saves to the same bytes, which do_save compares, and goes on as an atlas. */
+        do_save((plytimber_verdict){0, 0});
+        for (uint64_t k = below(4); k > 0; k--) any_call((plytimber_verdict){0, 0});
+    }
+    shelf_part = shelf_whole;
+    item_part = item_whole;
+    restore();
+}
+
 /* A sound atlas in use; now and then one number is changed, some calls are made on that, and it is put back. */
 static void on_sound_tables(int size) {
     any_tables(size);
@@ -640,6 +994,7 @@ static void on_sound_tables(int size) {
                 restore();
             }
         }
+        if (below(12) == 0) on_image();
         if (below(24) == 0) {
             save();
             int32_t other[6];
@@ -666,6 +1021,7 @@ static void on_random_tables(int size) {
         any_call(audit_answer());
         on_random += calls - from;
     }
+    if (below(8) == 0) images[RANDOM][do_load(change_image(RANDOM, BLOCK))]++, on_random++;
 }
 
 int main(int count, char **words) {
@@ -688,6 +1044,8 @@ int main(int count, char **words) {
         shelf_rooms[k] = open_room(pages[k]);
         item_rooms[k] = open_room(pages[k]);
         list_rooms[k] = open_room(pages[k]);
+        image_rooms[k] = open_room(image_pages[k]);
+        request_rooms[k] = open_room(pages[k]);
     }
     while (calls < wanted) {
         uint64_t choice = below(20000);
@@ -696,19 +1054,23 @@ int main(int count, char **words) {
         else on_sound_tables(size);
     }
     printf("%llu calls, seed %llu, all as they must be\n", (unsigned long long)calls, (unsigned long long)seed);
-    printf("of them %llu on tables with one number changed, %llu on random tables, %llu on tables shorter than the used rows, %llu with a NULL of length 0, %llu on tables of up to 65540 rows\n",
-           (unsigned long long)on_damaged, (unsigned long long)on_random, (unsigned long long)on_short, (unsigned long long)on_null, (unsigned long long)on_large);
+    printf("of them %llu on tables with one number changed, %llu on random tables, %llu on tables shorter than the used rows, %llu with a NULL of length 0, %llu on tables of up to 65540 rows, %llu batches of more requests than are answered\n",
+           (unsigned long long)on_damaged, (unsigned long long)on_random, (unsigned long long)on_short, (unsigned long long)on_null, (unsigned long long)on_large, (unsigned long long)on_longest);
     printf("%-11s", "answer");
-    for (int k = 0; k <= 10; k++) {
-        if (k != 9) printf("%10d", k);
-    }
+    for (int k = 0; k <= 11; k++) printf("%10d", k);
     printf("\n");
     for (int kind = 0; kind < KINDS; kind++) {
         printf("%-11s", names[kind]);
-        for (int k = 0; k <= 10; k++) {
-            if (k != 9) printf("%10llu", (unsigned long long)counts[kind][k]);
-        }
+        for (int k = 0; k <= 11; k++) printf("%10llu", (unsigned long long)counts[kind][k]);
         printf("\n");
+    }
+    printf("%-11s", "in batches");
+    for (int k = 0; k <= 11; k++) printf("%10llu", (unsigned long long)replied[k]);
+    printf("\n");
+    printf("%10s%10s%10s%10s  images\n", "0", "3", "7", "9");
+    for (int kind = 0; kind < IMAGES; kind++) {
+        const uint64_t *n = images[kind];
+        printf("%10llu%10llu%10llu%10llu  %s\n", (unsigned long long)n[0], (unsigned long long)n[3], (unsigned long long)n[7], (unsigned long long)n[9], image_names[kind]);
     }
     printf("audit, by the first rule that fails: 1: %llu, 2: %llu, 3: %llu, 5 to 7: %llu\n", (unsigned long long)rules[1], (unsigned long long)rules[2], (unsigned long long)rules[3], (unsigned long long)rules[5]);
     return 0;

@@ -1,4 +1,4 @@
-/* An atlas of labels: created, filled, drawn, given back. Build and run it by hosts/c/run. */
+/* An atlas of labels: created, filled, drawn, given back, saved and loaded. Build and run it by hosts/c/run. */
 #include "plytimber.h"
 #include <stdio.h>
 
@@ -6,6 +6,7 @@ enum { MOST_LABELS = 64, COLUMNS = 2, SHELF_ROWS = 2 * MOST_LABELS + COLUMNS, IT
 
 static uint16_t shelves[SHELF_ROWS * PLYTIMBER_SHELF_NUMBERS];
 static uint16_t items[ITEM_ROWS * PLYTIMBER_ITEM_NUMBERS];
+static uint8_t image[PLYTIMBER_IMAGE_BYTES(SHELF_ROWS, ITEM_ROWS)];
 
 /* The two tables, as every call takes them. */
 #define TABLES shelves, sizeof shelves / sizeof *shelves, items, sizeof items / sizeof *items
@@ -44,8 +45,23 @@ int main(void) {
     printf("too wide: %u\n", plytimber_allocate(&atlas, TABLES, 600, 20).answer);
     printf("occupied %u, free %u\n", plytimber_occupied(atlas, TABLES).area, plytimber_free_space(atlas, TABLES).area);
 
+    static const plytimber_request requests[] = {{PLYTIMBER_ALLOCATE, 90, 20}, {PLYTIMBER_RELEASE, 2, 7}, {PLYTIMBER_LOOK_UP, 0, 1}};
+    plytimber_reply replies[3];
+    plytimber_batched served = plytimber_batch(atlas, TABLES, (const uint16_t *)requests, 3 * PLYTIMBER_REQUEST_NUMBERS, (uint16_t *)replies, 3 * PLYTIMBER_REPLY_NUMBERS);
+    atlas = served.header;
+    printf("a batch of %u: %u, %u, %u\n", served.count, replies[0].answer, replies[1].answer, replies[2].answer);
+
+    plytimber_saved saved = plytimber_save(atlas, TABLES, image, sizeof image);
+    printf("saved: %u bytes\n", saved.length);
+
     shelves[2] ^= 1; /* a bit flips in the depth of the first shelf */
     plytimber_verdict verdict = plytimber_audit(atlas, TABLES);
     printf("after a flipped bit: allocate answers %u, the audit %u by rule %u\n", plytimber_allocate(&atlas, TABLES, 20, 20).answer, verdict.answer, verdict.rule);
-    return released == PLYTIMBER_DONE && again == PLYTIMBER_NO_SUCH_ITEM && verdict.answer == PLYTIMBER_AUDIT_FAILS ? 0 : 1;
+
+    plytimber_loaded loaded = plytimber_load(image, saved.length, TABLES);
+    atlas = loaded.header;
+    printf("loaded: %u; occupied %u\n", loaded.answer, plytimber_occupied(atlas, TABLES).area);
+    image[600] ^= 1; /* a bit flips in the image */
+    printf("after a flipped bit: load answers %u\n", plytimber_load(image, saved.length, TABLES).answer);
+    return released == PLYTIMBER_DONE && again == PLYTIMBER_NO_SUCH_ITEM && verdict.answer == PLYTIMBER_AUDIT_FAILS && loaded.answer == PLYTIMBER_DONE ? 0 : 1;
 }

@@ -1,7 +1,7 @@
 //! The numbers by which a call is refused, by name.
 use std::fmt;
 
-/// Why a call was refused. A refusal changes nothing.
+/// Why a call was refused. A refusal changes nothing, but for the tables lent to [`AtlasIn::load`](crate::AtlasIn::load) where that is [`Error::AuditFails`].
 #[derive(Copy, Clone, Debug, PartialEq, Eq, Hash)]
 #[repr(u32)]
 #[non_exhaustive]
@@ -10,7 +10,7 @@ pub enum Error {
     BadSize = 1,
     /// Creating: an alignment or the number of columns is bad, or no width is left for a shelf.
     BadOptions = 2,
-    /// Header and tables are not those of an atlas.
+    /// Header and tables, or those in an image, are not those of an atlas.
     AuditFails = 3,
     /// A side of the request is 0, negative or over 65535.
     BadSide = 4,
@@ -18,15 +18,15 @@ pub enum Error {
     TooLarge = 5,
     /// No shelf has a free stretch that fits, now.
     NoPlace = 6,
-    /// A table has too few rows left.
+    /// A table has too few rows left, or fewer than the image.
     TooFewRows = 7,
     /// The id names no live item.
     NoSuchItem = 8,
-    /// The blocks of a saved image are wrong. No call gives it yet.
+    /// Loading: the length or a block of the image is wrong.
     BadImage = 9,
-    /// There are more live items than the list has records.
+    /// There are more live items, bytes or requests than there is room for in the list, image or list of replies that is lent.
     ListTooShort = 10,
-    /// The line of a script is not readable. No call of this crate gives it.
+    /// A line of a script is not readable; in the library, a request of an unknown kind, which [`Request`](crate::Request) can't be.
     NotReadable = 11,
 }
 
@@ -69,7 +69,7 @@ impl fmt::Display for Error {
             Error::TooFewRows => "too few rows are left in a table",
             Error::NoSuchItem => "the id names no live item",
             Error::BadImage => "the blocks of the saved image are wrong",
-            Error::ListTooShort => "the list is too short",
+            Error::ListTooShort => "the list or output is too short",
             Error::NotReadable => "the line is not readable",
         })
     }

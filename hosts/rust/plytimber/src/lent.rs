@@ -1,5 +1,5 @@
 //! An atlas over a lent header and lent tables.
-use crate::{sys, AllocId, Allocation, AllocatorOptions, Error, Header, Live, Rectangle, Size, Verdict};
+use crate::{sys, AllocId, Allocation, AllocatorOptions, Error, Header, Live, Rectangle, Reply, Request, Size, Verdict};
 use crate::{ITEM_NUMBERS, SHELF_NUMBERS};
 use std::fmt;
 
@@ -44,6 +44,13 @@ impl<'a> AtlasIn<'a> {
         }
     }
 
+    /// The atlas of an image, in these tables, which may have other lengths than those that were saved. Where it is refused, header and tables stay as they
+    /// are; but [`Error::AuditFails`] is found when the rows are copied, and leaves them there.
+    pub fn load(image: &[u8], header: &'a mut Header, shelves: &'a mut [u16], items: &'a mut [u16]) -> Result<Self, Error> {
+        *header = sys::load(image, shelves, items)?;
+        Ok(AtlasIn { header, shelves, items })
+    }
+
     /// Whatever stands there, unread: so that a damaged atlas can be cleared.
     pub fn over(header: &'a mut Header, shelves: &'a mut [u16], items: &'a mut [u16]) -> Self {
         AtlasIn { header, shelves, items }
@@ -72,6 +79,18 @@ impl<'a> AtlasIn<'a> {
     /// All live items by rising row, into `out`; how many there are. Records past the last stay as they were.
     pub fn list(&self, out: &mut [Live]) -> Result<usize, Error> {
         sys::list(*self.header, self.shelves, self.items, out)
+    }
+
+    /// The atlas as an image, at the front of `image`; how many bytes it has ([`image_bytes`](crate::image_bytes) of the used rows). Bytes past it stay as they were.
+    pub fn save_to(&self, image: &mut [u8]) -> Result<usize, Error> {
+        sys::save(*self.header, self.shelves, self.items, image)
+    }
+
+    /// Many calls on one audit: each is answered in its place, as its single call would be after those before it, and a refused one doesn't stop the rest. How
+    /// many were answered: all, or the first 65535. [`Error::ListTooShort`] where there are fewer replies: nothing is done then. Replies past the last stay
+    /// as they were.
+    pub fn batch(&mut self, requests: &[Request], replies: &mut [Reply]) -> Result<usize, Error> {
+        sys::batch(self.header, self.shelves, self.items, requests, replies)
     }
 
     /// The size that was given.

@@ -6,6 +6,8 @@
 //!   a dead id where etagere stops the program. The compiler warns where a refused `deallocate` would go unseen.
 //! - Tables are fixed. By default they have all the rows that there can be; [`AtlasAllocator::with_rows`] takes less memory, and answers
 //!   [`Error::TooFewRows`] when they are full.
+//! - [`AtlasAllocator::save`] and [`AtlasAllocator::load`] stand for serde's feature: an image whose every block is checked, and which is audited before it is an atlas.
+//! - [`AtlasAllocator::batch`] makes many calls on one audit.
 //! - [`AtlasIn`] is an atlas over a header and tables that you lend, with no heap: static memory, or memory that outlives a restart.
 //!
 //! ## Example
@@ -45,6 +47,12 @@ pub use sys::Header;
 pub const SHELF_NUMBERS: usize = 8;
 pub const ITEM_NUMBERS: usize = 9;
 pub const MOST_ROWS: usize = 65535;
+
+/// The bytes of an image of so many used shelf rows and item rows: blocks of 512, one for the header, one for every 31 shelf rows, one for every 28 item
+/// rows. With the rows that the tables have, it is room enough for any atlas in them.
+pub const fn image_bytes(shelf_rows: usize, item_rows: usize) -> usize {
+    512 * (1 + shelf_rows.div_ceil(31) + item_rows.div_ceil(28))
+}
 
 /// Options to tweak the behavior of the atlas allocator.
 #[derive(Copy, Clone, Debug, PartialEq, Eq, Hash)]
@@ -129,6 +137,51 @@ impl From<Live> for Allocation {
     fn from(l: Live) -> Self {
         let rectangle = Rectangle { min: point2(l.x0 as i32, l.y0 as i32), max: point2(l.x1 as i32, l.y1 as i32) };
         Allocation { id: AllocId::new(l.row, l.generation), rectangle }
+    }
+}
+
+/// One call of a batch.
+#[repr(C)]
+#[derive(Copy, Clone, Debug, PartialEq, Eq, Hash)]
+pub struct Request {
+    kind: u16,
+    first: u16,
+    second: u16,
+}
+
+impl Request {
+    /// A side that is no number of 16 bits goes in as 0, which is refused for the same reason: [`Error::BadSide`].
+    pub fn allocate(size: Size) -> Self {
+        let side = |n: i32| u16::try_from(n).unwrap_or(0);
+        Request { kind: 1, first: side(size.width), second: side(size.height) }
+    }
+
+    pub const fn deallocate(id: AllocId) -> Self {
+        Request { kind: 2, first: id.row(), second: id.generation() }
+    }
+
+    pub const fn get(id: AllocId) -> Self {
+        Request { kind: 3, first: id.row(), second: id.generation() }
+    }
+}
+
+/// What [`AtlasIn::batch`] tells of one request, seven numbers.
+#[repr(C)]
+#[derive(Copy, Clone, Debug, Default, PartialEq, Eq, Hash)]
+pub struct Reply {
+    answer: u16,
+    item: Live,
+}
+
+impl Reply {
+    /// The item that was granted or looked up; `None` for a deallocation that is done; or why the request was refused.
+    pub fn told(self) -> Result<Option<Allocation>, Error> {
+        match Error::from_number(self.answer as u32) {
+            Some(error) => Err(error),
+            // No rectangle ends at 0, so these are the zeros beside a deallocation.
+            None if self.item.x1 == 0 => Ok(None),
+            None => Ok(Some(self.item.into())),
+        }
     }
 }
 

@@ -1,6 +1,6 @@
 //! An atlas that owns its tables, with etagere's names.
 use crate::lent::debug;
-use crate::{sys, AllocId, Allocation, AllocatorOptions, AtlasIn, Error, Header, Live, Rectangle, Size};
+use crate::{image_bytes, sys, AllocId, Allocation, AllocatorOptions, AtlasIn, Error, Header, Live, Rectangle, Reply, Request, Size};
 use crate::{DEFAULT_OPTIONS, ITEM_NUMBERS, MOST_ROWS, SHELF_NUMBERS};
 use std::fmt;
 
@@ -10,13 +10,17 @@ const KEPT: &str = "tables that nobody else writes to pass the audit";
 /// A shelf-packing dynamic texture atlas allocator tracking each allocation individually and with support for coalescing empty shelves.
 ///
 /// Nobody else can write to its tables, so they pass the audit after every call, and what only the audit could refuse (`clear`, `iter`, `size`,
-/// `is_empty`, `allocated_space`, `free_space`) returns a plain value, as etagere's does. Were memory damaged beneath it, these panic; a host that has to
+/// `is_empty`, `allocated_space`, `free_space`, `save`, `batch` as a whole) returns a plain value, as etagere's does. Were memory damaged beneath it, these panic; a host that has to
 /// hear of that takes [`AtlasAllocator::lent`], or an [`AtlasIn`] from the start, where all calls return a `Result`.
 #[derive(Clone)]
 pub struct AtlasAllocator {
     header: Header,
     shelves: Vec<u16>,
     items: Vec<u16>,
+}
+
+fn tables(shelf_rows: usize, item_rows: usize) -> (Vec<u16>, Vec<u16>) {
+    (vec![0; shelf_rows.min(MOST_ROWS) * SHELF_NUMBERS], vec![0; item_rows.min(MOST_ROWS) * ITEM_NUMBERS])
 }
 
 impl AtlasAllocator {
@@ -50,9 +54,20 @@ impl AtlasAllocator {
     /// An atlas whose tables have so many rows, 16 and 18 bytes each. `2 N + C` shelf rows and `4 N + C` item rows are enough for `N` items at a
     /// time in `C` columns.
     pub fn with_rows(size: Size, options: &AllocatorOptions, shelf_rows: usize, item_rows: usize) -> Result<Self, Error> {
-        let mut shelves = vec![0; shelf_rows.min(MOST_ROWS) * SHELF_NUMBERS];
-        let mut items = vec![0; item_rows.min(MOST_ROWS) * ITEM_NUMBERS];
+        let (mut shelves, mut items) = tables(shelf_rows, item_rows);
         let header = sys::create(&mut shelves, &mut items, options.numbers(size))?;
+        Ok(AtlasAllocator { header, shelves, items })
+    }
+
+    /// The atlas of an image that [`AtlasAllocator::save`] or C's `plytimber_save` made, in tables with all rows that there can be.
+    pub fn load(image: &[u8]) -> Result<Self, Error> {
+        Self::load_with_rows(image, MOST_ROWS, MOST_ROWS)
+    }
+
+    /// [`AtlasAllocator::load`] into tables of so many rows; [`Error::TooFewRows`] where the image has more.
+    pub fn load_with_rows(image: &[u8], shelf_rows: usize, item_rows: usize) -> Result<Self, Error> {
+        let (mut shelves, mut items) = tables(shelf_rows, item_rows);
+        let header = sys::load(image, &mut shelves, &mut items)?;
         Ok(AtlasAllocator { header, shelves, items })
     }
 
@@ -108,6 +123,29 @@ impl AtlasAllocator {
     /// How much space is available for future allocations.
     pub fn free_space(&self) -> i32 {
         sys::free_space(self.header, &self.shelves, &self.items).expect(KEPT) as i32
+    }
+
+    /// The atlas as an image, as long as it needs to be. The same atlas gives the same bytes, and [`AtlasAllocator::load`] gives it back.
+    pub fn save(&self) -> Vec<u8> {
+        let mut image = vec![0; image_bytes(self.header.used_shelves as usize, self.header.used_items as usize)];
+        let length = self.save_to(&mut image).expect(KEPT);
+        image.truncate(length);
+        image
+    }
+
+    /// The image, at the front of `image`; how many bytes it has. [`Error::ListTooShort`] where it doesn't fit; bytes past it stay as they were.
+    pub fn save_to(&self, image: &mut [u8]) -> Result<usize, Error> {
+        sys::save(self.header, &self.shelves, &self.items, image)
+    }
+
+    /// Many calls on one audit (one for every 65535): each is answered in its place, as its single call would be after those before it. An item that was
+    /// granted or looked up, `None` for a deallocation that is done, or why that request was refused, which doesn't stop the rest.
+    pub fn batch(&mut self, requests: &[Request]) -> Vec<Result<Option<Allocation>, Error>> {
+        let mut replies = vec![Reply::default(); requests.len()];
+        for (asked, told) in requests.chunks(MOST_ROWS).zip(replies.chunks_mut(MOST_ROWS)) {
+            self.lent().batch(asked, told).expect(KEPT);
+        }
+        replies.into_iter().map(Reply::told).collect()
     }
 
     /// The header, and the numbers of the two tables, to read.

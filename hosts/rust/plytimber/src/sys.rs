@@ -2,7 +2,7 @@
 //!
 //! Why they are safe: the library promises to end and to touch nothing but what it is lent, for any numbers; what it asks of a caller in C (pointers
 //! that are valid and aligned for their lengths, no overlap, nobody else writing) is what a reference and a slice are.
-use crate::{Error, Live, Verdict};
+use crate::{Error, Live, Reply, Request, Verdict};
 
 /// The header of an atlas: eleven numbers, 24 bytes, as hosts/c/plytimber.h has them. The default one, all zero, is no atlas.
 #[repr(C)]
@@ -22,6 +22,8 @@ pub struct Header {
 }
 
 const _: () = assert!(size_of::<Header>() == 24 && size_of::<Live>() == 6 * size_of::<u16>() && align_of::<Live>() == align_of::<u16>());
+const _: () = assert!(size_of::<Request>() == 3 * size_of::<u16>() && align_of::<Request>() == align_of::<u16>());
+const _: () = assert!(size_of::<Reply>() == 7 * size_of::<u16>() && align_of::<Reply>() == align_of::<u16>());
 
 #[repr(C)]
 struct Grant {
@@ -41,7 +43,20 @@ struct Created {
     header: Header,
 }
 
-/// An answer and one number: a count, an area, whether it is vacant, a rule.
+#[repr(C)]
+struct Loaded {
+    answer: u32,
+    header: Header,
+}
+
+#[repr(C)]
+struct Batched {
+    answer: u32,
+    count: u32,
+    header: Header,
+}
+
+/// An answer and one number: a count, an area, whether it is vacant, a rule, a length.
 #[repr(C)]
 struct Told {
     answer: u32,
@@ -70,6 +85,9 @@ extern "C" {
     fn plytimber_size(header: Header, shelves: Read, s: usize, items: Read, i: usize) -> Extent;
     fn plytimber_is_empty(header: Header, shelves: Read, s: usize, items: Read, i: usize) -> Told;
     fn plytimber_audit(header: Header, shelves: Read, s: usize, items: Read, i: usize) -> Told;
+    fn plytimber_save(header: Header, shelves: Read, s: usize, items: Read, i: usize, image: *mut u8, bytes: usize) -> Told;
+    fn plytimber_load(image: *const u8, bytes: usize, shelves: Lent, s: usize, items: Lent, i: usize) -> Loaded;
+    fn plytimber_batch(header: Header, shelves: Lent, s: usize, items: Lent, i: usize, requests: Read, q: usize, replies: Lent, r: usize) -> Batched;
 }
 
 fn answered<T>(answer: u32, told: T) -> Result<T, Error> {
@@ -156,4 +174,28 @@ pub fn audit(header: Header, shelves: &[u16], items: &[u16]) -> Verdict {
         (_, 3) => Verdict::Items,
         _ => Verdict::Lists,
     }
+}
+
+/// How many bytes the image has.
+pub fn save(header: Header, shelves: &[u16], items: &[u16], image: &mut [u8]) -> Result<usize, Error> {
+    // SAFETY: as in `look_up`; the image is valid for its length, and is not shared.
+    let told = unsafe { plytimber_save(header, shelves.as_ptr(), shelves.len(), items.as_ptr(), items.len(), image.as_mut_ptr(), image.len()) };
+    answered(told.answer, told.number as usize)
+}
+
+pub fn load(image: &[u8], shelves: &mut [u16], items: &mut [u16]) -> Result<Header, Error> {
+    // SAFETY: the slices are valid for their lengths; the tables are not shared, and of the image the call only reads.
+    let told = unsafe { plytimber_load(image.as_ptr(), image.len(), shelves.as_mut_ptr(), shelves.len(), items.as_mut_ptr(), items.len()) };
+    answered(told.answer, told.header)
+}
+
+/// How many requests were answered.
+pub fn batch(header: &mut Header, shelves: &mut [u16], items: &mut [u16], requests: &[Request], replies: &mut [Reply]) -> Result<usize, Error> {
+    let (asked, room) = (size_of_val(requests) / size_of::<u16>(), size_of_val(replies) / size_of::<u16>());
+    let (s, i, out) = (shelves.len(), items.len(), replies.as_mut_ptr().cast());
+    // SAFETY: as in `allocate`; a request is three numbers and a reply seven, without a gap, so both lists are valid for so many numbers.
+    let told = unsafe { plytimber_batch(*header, shelves.as_mut_ptr(), s, items.as_mut_ptr(), i, requests.as_ptr().cast(), asked, out, room) };
+    // Where it is refused, this is the header that was given.
+    *header = told.header;
+    answered(told.answer, told.count as usize)
 }

@@ -228,3 +228,138 @@ fn rows_said_to_be_enough_are_and_no_fewer() {
         assert_eq!(most_rows(n, 2 * n + 1, 4 * n), Err(Error::TooFewRows));
     }
 }
+
+/// An atlas in use, with freed rows: every kind of block is in its image.
+fn in_use(vertical: bool, shelf_rows: usize, item_rows: usize) -> AtlasAllocator {
+    let mut atlas = AtlasAllocator::with_rows(size2(900, 800), &options(4, 2, vertical, 3), shelf_rows, item_rows).unwrap();
+    let ids: Vec<AllocId> = (0..90).map(|k| atlas.allocate(size2(10 + k * 7 % 50, 8 + k * 13 % 60)).unwrap().id).collect();
+    ids.into_iter().step_by(3).for_each(|id| atlas.deallocate(id).unwrap());
+    atlas
+}
+
+#[test]
+fn saved_and_loaded() {
+    for vertical in [false, true] {
+        let atlas = in_use(vertical, 200, 400);
+        let image = atlas.save();
+        let header = *atlas.parts().0;
+        let (shelf_rows, item_rows) = (header.used_shelves as usize, header.used_items as usize);
+        assert!(item_rows > 28, "more than one block of items");
+        assert_eq!(image.len(), image_bytes(shelf_rows, item_rows));
+        // In tables of all rows, of another length, and of just the rows that are used.
+        let loaded =
+            [AtlasAllocator::load(&image), AtlasAllocator::load_with_rows(&image, 150, 300), AtlasAllocator::load_with_rows(&image, shelf_rows, item_rows)];
+        for again in loaded.map(Result::unwrap) {
+            assert_eq!((again.parts().0, again.save()), (atlas.parts().0, image.clone()));
+            assert_eq!(again.iter().collect::<Vec<_>>(), atlas.iter().collect::<Vec<_>>());
+        }
+        // It goes on as the first does.
+        let (mut first, mut second) = (atlas.clone(), AtlasAllocator::load_with_rows(&image, 200, 400).unwrap());
+        for k in 0..100 {
+            assert_eq!(first.allocate(size2(5 + k, 9)), second.allocate(size2(5 + k, 9)));
+        }
+        assert_eq!(first.save(), second.save());
+        assert_eq!(AtlasAllocator::load_with_rows(&image, shelf_rows - 1, item_rows).unwrap_err(), Error::TooFewRows);
+        assert_eq!(AtlasAllocator::load_with_rows(&image, shelf_rows, item_rows - 1).unwrap_err(), Error::TooFewRows);
+    }
+}
+
+#[test]
+fn an_image_that_is_not_exactly_so() {
+    let image = in_use(false, 200, 400).save();
+    let refused = |image: &[u8]| {
+        let mut held = Held::new();
+        let before = (held.header, held.numbers());
+        let error = AtlasIn::load(image, &mut held.header, &mut held.shelves[3..90], &mut held.items[5..190]).unwrap_err();
+        assert_eq!((held.header, held.numbers()), before);
+        error
+    };
+    for at in 0..image.len() {
+        let mut changed = image.clone();
+        changed[at] ^= 1 << (at % 8);
+        assert_eq!(refused(&changed), Error::BadImage, "byte {at}");
+    }
+    for length in [0, 1, 511, 512, image.len() - 512, image.len() - 1] {
+        assert_eq!(refused(&image[..length]), Error::BadImage, "{length} bytes");
+    }
+    assert_eq!(refused(&[&image[..], &[0]].concat()), Error::BadImage);
+    assert_eq!(refused(&image), Error::TooFewRows);
+}
+
+#[test]
+fn an_image_of_no_atlas_leaves_its_rows() {
+    let mut held = Held::new();
+    AtlasIn::create(&mut held.header, &mut held.shelves[3..90], &mut held.items[5..190], size2(64, 64), &DEFAULT_OPTIONS).unwrap();
+    let mut image = [0; image_bytes(1, 1) + 3];
+    assert_eq!(held.over().save_to(&mut image[..image_bytes(1, 1) - 1]), Err(Error::ListTooShort));
+    assert_eq!(image, [0; image_bytes(1, 1) + 3]);
+    image[image_bytes(1, 1)..].fill(9);
+    assert_eq!(held.over().save_to(&mut image), Ok(image_bytes(1, 1)));
+    assert_eq!(image[image_bytes(1, 1)..], [9; 3]);
+    // The first shelf's depth, 64, becomes 63, and the check goes with it.
+    for at in [512 + 6 + 4, 512 + 510] {
+        let number = u16::from_le_bytes([image[at], image[at + 1]]) - 1;
+        image[at..at + 2].copy_from_slice(&number.to_le_bytes());
+    }
+    let mut other = Held::new();
+    let error = AtlasIn::load(&image[..image_bytes(1, 1)], &mut other.header, &mut other.shelves[3..90], &mut other.items[5..190]).unwrap_err();
+    assert_eq!((error, other.header), (Error::AuditFails, Header::default()));
+    let mut expected = Held::new();
+    expected.shelves[3..11].copy_from_slice(&held.shelves[3..11]);
+    expected.shelves[3 + 2] = 63;
+    expected.items[5..14].copy_from_slice(&held.items[5..14]);
+    assert_eq!(other.numbers(), expected.numbers());
+}
+
+#[test]
+fn a_batch_is_its_single_calls() {
+    let start = in_use(true, 60, 130);
+    let live: Vec<Allocation> = start.iter().collect();
+    let mut requests = Vec::new();
+    for (k, a) in live.iter().enumerate() {
+        let side = [24, 0, -3, 65536 + 24, 70][k % 5];
+        requests.push(Request::allocate(size2(side, 10 + k as i32)));
+        requests.push(Request::get(a.id));
+        requests.push(Request::deallocate(a.id));
+        requests.push(Request::get(a.id));
+        requests.push(Request::deallocate(AllocId::new(k as u16, 9)));
+    }
+    let (mut single, mut whole, mut lent) = (start.clone(), start.clone(), start.clone());
+    let mut expected = Vec::new();
+    for (k, a) in live.iter().enumerate() {
+        expected.push(single.allocate(size2([24, 0, -3, 65536 + 24, 70][k % 5], 10 + k as i32)).map(Some));
+        expected.push(single.get(a.id).map(|rectangle| Some(Allocation { id: a.id, rectangle })));
+        expected.push(single.deallocate(a.id).map(|()| None));
+        expected.push(single.get(a.id).map(|rectangle| Some(Allocation { id: a.id, rectangle })));
+        expected.push(single.deallocate(AllocId::new(k as u16, 9)).map(|()| None));
+    }
+    assert_eq!(whole.batch(&requests), expected);
+    assert_eq!(whole.parts(), single.parts());
+    assert!([Error::BadSide, Error::NoSuchItem].iter().all(|e| expected.contains(&Err(*e))));
+
+    let mut replies = vec![Reply::default(); requests.len() + 2];
+    let short = requests.len() - 1;
+    assert_eq!(lent.lent().batch(&requests, &mut replies[..short]), Err(Error::ListTooShort));
+    assert_eq!((lent.parts(), replies.iter().all(|r| *r == Reply::default())), (start.parts(), true));
+    assert_eq!(lent.lent().batch(&requests, &mut replies), Ok(requests.len()));
+    assert_eq!(lent.parts(), single.parts());
+    assert_eq!(replies[..requests.len()].iter().map(|r| r.told()).collect::<Vec<_>>(), expected);
+    assert_eq!(replies[requests.len()..], [Reply::default(); 2]);
+
+    let mut held = Held::new();
+    assert_eq!(held.over().batch(&requests, &mut replies), Err(Error::AuditFails));
+    assert_eq!((held.header, whole.batch(&[])), (Header::default(), vec![]));
+}
+
+#[test]
+fn a_batch_longer_than_a_list_can_be() {
+    let mut atlas = AtlasAllocator::with_rows(size2(100, 40), &DEFAULT_OPTIONS, 4, 8).unwrap();
+    let id = atlas.allocate(size2(100, 40)).unwrap().id;
+    let mut requests = vec![Request::allocate(size2(1, 1)); MOST_ROWS + 2];
+    requests[MOST_ROWS] = Request::deallocate(id);
+    let told = atlas.batch(&requests);
+    assert!(told[..MOST_ROWS].iter().all(|t| *t == Err(Error::NoPlace)));
+    assert_eq!(told[MOST_ROWS], Ok(None));
+    assert!(matches!(told[MOST_ROWS + 1], Ok(Some(_))));
+    assert_eq!(atlas.lent().batch(&requests, &mut vec![Reply::default(); MOST_ROWS]), Ok(MOST_ROWS));
+}
