@@ -3,7 +3,8 @@
 use Rattle.numbers.specs.Library.{ℕ, _+_, _-_, _≤_, _<_, _≡_, refl, sym, ap, subst, _∙_, List, [], _++_, append-assoc, append-nil, length, take, drop}
 use Rattle.numbers.specs.Library.{length-take, length-drop, length-append, take-all, arith}
 use lib.Seq.{take-add, take-at}
-use Rattle.rows.specs.Prelude.{rows, rows-are, items}
+use Rattle.rows.specs.Prelude.{rows, rows-are, items, zeroHeader}
+use Rattle.rows.specs.declared.header.Header.{Header}
 use Rattle.texts.specs.Put.{Puts, put-whole}
 use Rattle.input.specs.Kept.{short}
 use Rattle.feed.specs.Answers.{State}
@@ -20,6 +21,11 @@ pub record Answered (kept piece : List ℕ) (s s′ : State) (kept′ : List ℕ
 pub record Reads (kept : List ℕ) (s s′ : State) (kept′ : List ℕ) : Type 0 where
   pub bytes : List ℕ
   pub answered : Answered kept bytes s s′ kept′
+
+-- From no atlas on some bytes are fed; what is kept of a line that has not ended is not told.
+pub record Obeys (S I : List ℕ) (h′ : Header) (S′ I′ : List ℕ) : Type 0 where
+  pub kept : List ℕ
+  pub reads : Reads [] (record { header = zeroHeader; shelves = S; items = I }) (record { header = h′; shelves = S′; items = I′ }) kept
 
 -- ---- laws
 

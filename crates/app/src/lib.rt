@@ -12,7 +12,7 @@ use rows::shelf;
 ghost use mathlib.Core.Path.{_≡_};
 ghost use Prim.Native.Nat.{_≤_};
 ghost use lib.ListN.{length, take};
-ghost use Rattle.app.specs.Reads.{Answered, Reads};
+ghost use Rattle.app.specs.Reads.{Answered, Reads, Obeys};
 
 // The two tables: 512 rows for shelves and 2048 for items.
 const SHELVES: usize = 512 * shelf::NUMBERS;
@@ -153,6 +153,7 @@ fn turn(
 // Reads standard input to its end and obeys its lines, from no atlas on; the answers go to `to`. What it returns is the header of the last atlas, which lies in the tables.
 pub fn obey(to: i32, shelves: &mut [u16], items: &mut [u16]) -> Header
     requires { ⌜ length (now items) ≡ 18432 ⌝ }
+    ensures { λ r. ⌜ Obeys (now (shelves .entry)) (now (items .entry)) r (now (shelves .exit)) (now (items .exit)) ⌝ }
 {
     let mut line = [0u8; 81];
     let mut header = header::no_header();

@@ -38,7 +38,7 @@ obey-spec =
     loop-again
     (λ c. search needs)
     (λ c. search needs)
+    (λ c. let at-loop = c .before .before in record { kept = _; reads = rw (at-loop .before .no-header .ensures) at (at-loop .loop .inv .0) })
     (λ c. search needs)
     (λ c. search needs)
-    (λ c. search needs)
-    (λ c. search needs))
+    (λ c. let at-loop = c .before in record { kept = _; reads = rw (at-loop .before .no-header .ensures) at (at-loop .loop .inv .0) }))
