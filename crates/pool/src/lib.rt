@@ -103,13 +103,17 @@ fn sum(a: u16, b: u16, c: u16, d: u16) -> u32
     a as u32 + b as u32 + c as u32 + d as u32
 }
 
-// Whether a row is as a freed one is left: zero but for next and generation. A sum is zero where each number is.
+// Whether a row is as a freed one is left: zero but for next and generation. Numbers that stand side by side are compared at once.
 pub fn is_freed_item(v: ItemRow) -> bool
     ensures { λ r. ⌜ Decides r (FreedItem v) ⌝ }
 {
-    let place = sum(v.x, v.width, v.shelf.0, v.allocated);
-    let links = sum(v.prev.0, v.prev_unallocated.0, v.next_unallocated.0, 0);
-    place + links == 0
+    if v.x as u32 + v.width as u32 * 65536 != 0 {
+        return false;
+    }
+    if v.prev.0 != 0 {
+        return false;
+    }
+    item::tail_of(v) == 0
 }
 
 // The same of a shelf, which has no generation.

@@ -1,6 +1,6 @@
 -- The item table: what a row holds, and how it stands in the table. The width of a row is said here, and nowhere above.
 -- Assumes nothing.
-use Rattle.numbers.specs.Library.{refl, List, [], _∷_, ℕ, lit<, getD, set}
+use Rattle.numbers.specs.Library.{refl, List, [], _∷_, ℕ, _*_, lit<, getD, set}
 use Rattle.numbers.specs.declared.{index.ItemIndex.ItemIndex, index.ShelfIndex.ShelfIndex}
 use Rattle.rows.specs.declared.item.ItemRow.{ItemRow}
 use Rattle.rows.specs.Part.{each-all}
@@ -40,6 +40,10 @@ items = record {
   back = λ a. refl;
   forth = each-all 9;
 }
+
+-- where the numbers of a row begin
+unfoldable pub itemStart : ℕ → ℕ
+itemStart at = at * 9
 
 -- how many rows a table has, the row at an index, and the table with another row there or with that row changed
 abbrev pub itemCapacity : List ℕ → ℕ

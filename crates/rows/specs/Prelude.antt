@@ -10,7 +10,7 @@ pub use Rattle.rows.specs.Shelf.{numbersOf, shelfOf, zeroShelf, shelfCap
 unfoldable pub use Rattle.rows.specs.Shelf.{shelves, withShelfX, withY, withHeight, withShelfPrev, withShelfNext, withFirstItem, withFirstFree, withEmpty}
 pub use Rattle.rows.specs.Item.{itemOf, zeroItem, itemCapacity, itemAt, putItem, changeItem}
 unfoldable pub use Rattle.rows.specs.Item.{items, withItemX, withWidth, withItemPrev, withItemNext, withPrevFree, withNextFree, withShelf, withAllocated}
-unfoldable pub use Rattle.rows.specs.Item.{withGeneration}
+unfoldable pub use Rattle.rows.specs.Item.{withGeneration, itemStart}
 pub use Rattle.rows.specs.Views.{Body, Links, same-row}
 unfoldable pub use Rattle.rows.specs.Views.{bodyOf, linksOf, inBody}
 pub use Rattle.rows.specs.Links.{Below, below-more, below-some, Linked, LinksWithin, linked-at, within-put, within-change, linked-more, within-new, within-again, below-there}

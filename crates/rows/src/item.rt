@@ -1,8 +1,8 @@
 // The rows of the item table, as values.
 ghost use mathlib.Core.Path.{_≡_};
 ghost use lib.ListN.{length};
-ghost use Prim.Native.Nat.{_<_};
-ghost use Rattle.rows.specs.Item.{zeroItem, numbersOf, itemOf, itemCapacity, itemAt, putItem};
+ghost use Prim.Native.Nat.{_+_, _*_, _<_};
+ghost use Rattle.rows.specs.Item.{zeroItem, numbersOf, itemOf, itemStart, itemCapacity, itemAt, putItem};
 ghost use Rattle.rows.specs.Links.{Below};
 use numbers::index::ItemIndex;
 use numbers::index::MOST_ROWS;
@@ -75,6 +75,15 @@ fn write_item(r: &mut [u16], v: ItemRow)
     r[8] = v.generation;
 }
 
+// The free links, the shelf and the flag of a row as one number. They stand side by side, so that they are read and compared at once.
+pub fn tail_of(v: ItemRow) -> u64
+    ensures { λ r. ⌜ r ≡ v .«prev_unallocated» .0 + v .«next_unallocated» .0 * 65536 + v .shelf .0 * 4294967296 + v .allocated * 281474976710656 ⌝ }
+{
+    let links = v.prev_unallocated.0 as u64 + v.next_unallocated.0 as u64 * 65536;
+    let place = v.shelf.0 as u64 * 4294967296 + v.allocated as u64 * 281474976710656;
+    links + place
+}
+
 // How many rows a table has: the whole ones, at most 65535.
 pub fn item_capacity(items: &[u16]) -> u16
     ensures { λ r. ⌜ r ≡ itemCapacity (now (items .entry)) ⌝ }
@@ -86,14 +95,28 @@ pub fn item_capacity(items: &[u16]) -> u16
     n as u16
 }
 
+// Where the numbers of a row begin. A walk keeps it beside the index, so that it is worked out once for each row.
+pub fn item_start(at: ItemIndex) -> usize
+    ensures { λ r. ⌜ r ≡ itemStart (at .0) ⌝ }
+{
+    at.0 as usize * NUMBERS
+}
+
+// The row at an index that the table has, from its start on: the length is not tested.
+pub fn item_from(items: &[u16], at: usize, start: usize) -> ItemRow
+    requires { ⌜ (at < itemCapacity (now items)) × (start ≡ itemStart at) ⌝ }
+    ensures { λ r. ⌜ r ≡ itemAt (now (items .entry)) (record { 0 = at }) ⌝ }
+{
+    let end = start + NUMBERS;
+    read_item(&items[start..end])
+}
+
 // The row at an index that the table has: its length is not tested.
 pub fn item_there(items: &[u16], at: ItemIndex) -> ItemRow
     requires { ⌜ at .0 < itemCapacity (now items) ⌝ }
     ensures { λ r. ⌜ r ≡ itemAt (now (items .entry)) at ⌝ }
 {
-    let b = at.0 as usize * NUMBERS;
-    let e = b + NUMBERS;
-    read_item(&items[b..e])
+    item_from(items, at.0 as usize, item_start(at))
 }
 
 // The row at an index; zeros where the table has no such row.
