@@ -5,4 +5,5 @@ pub mod Empty
 pub mod TotalTurns
 pub mod FreedRows
 pub mod FreeLists
+pub mod FreeListsByPlace
 pub mod Agree
