@@ -1,4 +1,5 @@
 pub mod Sums
+pub mod Widths
 pub mod ListTurns
 pub mod ItemTurns
 pub mod Empty
