@@ -11,8 +11,7 @@ use lib.Bits.{bitAnd, bitOr, and-step, and-self, and-le-l, and-le-r, or-mod, or-
 abbrev Tells : ℕ → Type 0
 Tells n = 1 ≤ n → bitAnd n (n - 1) ≡ 0 → (k : ℕ) × (n ≡ 2 ^ k)
 
--- An even number and the one below have the digits of its half and of the one below that, before their last; so its half passes the test too. An odd
--- one shares all but its last digit with the one below, so it has no other.
+-- An even number passes the test only if its half does. An odd one shares all its digits but the last with the number below it, so it has no other.
 halved : (n : ℕ) → Tells (n / 2) → Tells n
 halved n half some e = go (ℕ-discrete (n % 2) 0) where
   go : Dec (n % 2 ≡ 0) → (k : ℕ) × (n ≡ 2 ^ k)
