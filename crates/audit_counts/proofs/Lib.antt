@@ -1,7 +1,10 @@
 pub mod Sums
+pub mod Widths
 pub mod ListTurns
 pub mod ItemTurns
+pub mod Empty
 pub mod TotalTurns
 pub mod FreedRows
 pub mod FreeLists
+pub mod FreeListsByPlace
 pub mod Agree

@@ -97,6 +97,16 @@ unfoldable pub FreeListOf : Header → List ℕ → List ℕ → ℕ → Type 0
 unfolding FreeList
 FreeListOf h S I on = FreeList h I on (get shelves S on .«first_unallocated» .0)
 
+-- the same by place alone, where no width is asked
+pub record FreeItemAt (on prev : ℕ) (i : ItemRow) : Type 0 where
+  pub back : i .«prev_unallocated» .0 ≡ prev
+  pub named : i .shelf .0 ≡ on
+  pub is-free : i .allocated ≡ 0
+
+unfoldable pub FreeListAt : Header → List ℕ → ℕ → ℕ → Type 0
+FreeListAt h I on first =
+    Walk (freeNext I) (λ prev r. FreeItemAt on prev (get items I r)) (λ prev r. r) (λ last. Unit {0}) (h .«used_items») first noRow
+
 unfoldable pub allFreeMet : Header → List ℕ → List ℕ → List ℕ
 unfolding shelvesMet freeMet
 allFreeMet h S I = gather (freeMet h S I) (shelvesMet h S)
