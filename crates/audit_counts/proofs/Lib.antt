@@ -8,3 +8,4 @@ pub mod FreedRows
 pub mod FreeLists
 pub mod FreeListsByPlace
 pub mod Agree
+pub mod Yes
