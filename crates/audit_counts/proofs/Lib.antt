@@ -8,4 +8,5 @@ pub mod FreedRows
 pub mod FreeLists
 pub mod FreeListsByPlace
 pub mod Agree
+pub mod Yes
 pub mod FastTurns

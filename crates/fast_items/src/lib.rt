@@ -4,7 +4,7 @@ ghost use Prim.Native.Nat.{_≤_};
 ghost use Rattle.numbers.specs.Prelude.{Decides};
 ghost use Rattle.rows.specs.Prelude.{itemStart, itemCapacity};
 ghost use Rattle.audit_counts.specs.Fast.{LiveOf, Fits};
-ghost use Rattle.fast_items.specs.Walks.{LivesPast};
+ghost use Rattle.fast_items.specs.Walks.{LivesPast, Walks};
 use numbers::index::NO_ROW;
 use rows::header::Header;
 use rows::item;
@@ -113,6 +113,100 @@ fn lives(
         prev,
         x,
         count,
+        widths,
+    }
+}
+
+const WRONG: Walked = Walked {
+    right: false,
+    count: 0,
+    free: 0,
+    gap: 0,
+    widths: 0,
+};
+
+// The items of shelf `s`, which stands in row `on`: stretches of live items, and after each a free one, which no free one follows. `all` is what their
+// widths are or-ed to, `gap` the width of the free ones.
+pub fn items_right(h: Header, items: &[u16], on: u16, s: ShelfRow, all: u32) -> Walked
+    requires { ⌜ h .«used_items» ≤ itemCapacity (now items) ⌝ }
+    ensures { λ w. ⌜ Walks h (now (items .entry)) on s all w ⌝ }
+{
+    let mut cur = s.first_item.0 as usize;
+    let mut start = item::item_start(s.first_item);
+    let mut prev: u16 = NO_ROW;
+    let mut x = s.x as u32;
+    let mut count: u32 = 0;
+    let mut widths = all;
+    let mut free: u32 = 0;
+    let mut gap: u32 = 0;
+    while cur < h.used_items as usize {
+        let p = lives(
+            items,
+            h.used_items,
+            on,
+            cur,
+            start,
+            prev,
+            x,
+            count,
+            widths,
+        );
+        if !p.right {
+            return WRONG;
+        }
+        cur = p.cur;
+        start = p.start;
+        prev = p.prev;
+        x = p.x;
+        count = p.count;
+        widths = p.widths;
+        if cur < h.used_items as usize {
+            let i = item::item_from(items, cur, start);
+            if !fits(prev, x, i) {
+                return WRONG;
+            }
+            if !fast_lists::free_of(on, i) {
+                return WRONG;
+            }
+            free += 1;
+            gap += i.width as u32;
+            prev = cur as u16;
+            x += i.width as u32;
+            count += 1;
+            widths = widths | i.width as u32;
+            cur = i.next.0 as usize;
+            start = item::item_start(i.next);
+            if cur < h.used_items as usize {
+                let j = item::item_from(items, cur, start);
+                if !live_of(on, j) {
+                    return WRONG;
+                }
+                if !fits(prev, x, j) {
+                    return WRONG;
+                }
+                prev = cur as u16;
+                x += j.width as u32;
+                count += 1;
+                widths = widths | j.width as u32;
+                cur = j.next.0 as usize;
+                start = item::item_start(j.next);
+            }
+        }
+    }
+    if cur != NO_ROW as usize {
+        return WRONG;
+    }
+    if (h.used_items as u32) < count {
+        return WRONG;
+    }
+    if x != s.x as u32 + h.limits.shelf_width as u32 {
+        return WRONG;
+    }
+    Walked {
+        right: true,
+        count,
+        free,
+        gap,
         widths,
     }
 }
