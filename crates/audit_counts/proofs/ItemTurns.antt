@@ -6,7 +6,7 @@ use Rattle.numbers.specs.Prelude.{noRow, never, refuted}
 use Rattle.rows.specs.Prelude.{get, items}
 use Rattle.rows.specs.declared.{header.Header.Header, item.ItemRow.ItemRow, shelf.ShelfRow.ShelfRow}
 use Rattle.rules.specs.Prelude.{itemNext, Along, ItemRight, along, atLeft, sumOver}
-use Rattle.audit_counts.specs.Counts.{apart, freeIn, liveIn, strayIn, freeOf, liveOf, strayOf, rowsOf, RightOf, ShelfTallied}
+use Rattle.audit_counts.specs.Counts.{apart, freeIn, liveIn, strayIn, freeOf, liveOf, strayOf, rowsOf, RightOf, Small, ShelfTallied}
 use Rattle.chains.proofs.Prelude.{Deciding, begins, onward, wrong, no-fuel, outside, ended, unended, Lasting, lasts, lasted, last-ended}
 use Rattle.audit_counts.proofs.Sums.{Summing, sums, summed, sum-ended}
 
@@ -80,13 +80,6 @@ module _ {h : Header} {I : List ℕ} {on : ℕ} {s : ShelfRow} {cur count : ℕ}
 -- all that is asked of an item, if no free item ends before it
 abbrev pub Placed : Header → ℕ → ℕ → ℕ → ItemRow → Type 0
 Placed h on prev x i = ItemRight h on (record { prev = prev; x = x; afterFree = false }) i
-
--- the numbers of an item that the loop adds up fit 16 bits
-pub record Small (i : ItemRow) : Type 0 where
-  pub x : i .x ≤ 65535
-  pub width : i .width ≤ 65535
-  pub prev-free : i .«prev_unallocated» .0 ≤ 65535
-  pub next-free : i .«next_unallocated» .0 ≤ 65535
 
 placed : {h : Header} {on prev x : ℕ} {after : Bool} {i : ItemRow} → ItemRight h on (record { prev = prev; x = x; afterFree = after }) i → Placed h on prev x i
 placed o = record {

@@ -1,6 +1,7 @@
 pub mod Sums
 pub mod Widths
 pub mod ListTurns
+pub mod CountedDown
 pub mod ItemTurns
 pub mod Empty
 pub mod TotalTurns

@@ -20,7 +20,7 @@ pub record Counting {σ R : Type 0} (row : ℕ → R) (ok : σ → R → Type 0)
   pub fuel-most : fuel ≤ n
 
 module _ {σ R : Type 0} {row : ℕ → R} {ok : σ → R → Type 0} {link : R → ℕ} {next : σ → ℕ → σ} {n : ℕ} where
-  counting-begins : {cur : ℕ} {s : σ} → n ≤ noRow
+  pub counting-begins : {cur : ℕ} {s : σ} → n ≤ noRow
       → Counting row ok link next n (Walk (λ r. link (row r)) (λ d r. ok d (row r)) next (λ last. Unit {0}) n cur s) (length (rowsFrom (λ r. link (row r)) n cur)) cur n s
   counting-begins b = record { walk = begins b; count = lasts; rows-most = b; fuel-most = omega arith }
 

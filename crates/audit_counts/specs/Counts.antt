@@ -36,6 +36,13 @@ liveOf I r = liveIn (get items I r)
 abbrev pub strayOf : List ℕ → ℕ → ℕ
 strayOf I r = strayIn (get items I r)
 
+-- the numbers of an item that a walk adds up fit 16 bits
+pub record Small (i : ItemRow) : Type 0 where
+  pub x : i .x ≤ 65535
+  pub width : i .width ≤ 65535
+  pub prev-free : i .«prev_unallocated» .0 ≤ 65535
+  pub next-free : i .«next_unallocated» .0 ≤ 65535
+
 -- the rows that are met along the items of the shelf s, and rule 3 for it, where it stands in row `on`
 unfoldable pub rowsOf : Header → List ℕ → ShelfRow → List ℕ
 rowsOf h I s = rowsFrom (itemNext I) (h .«used_items») (s .«first_item» .0)

@@ -1,13 +1,12 @@
 -- What the fast walk finds, which can say yes and nothing else: one run along each shelf's items, which leaves the alignment of the widths to one test
 -- at its end. `I` is the item table throughout. Assumes nothing.
-use Rattle.numbers.specs.Library.{ℕ, _+_, _-_, _%_, _^_, _≤_, _<_, _≡_, true, List}
+use Rattle.numbers.specs.Library.{ℕ, _+_, _%_, _^_, _≤_, _<_, _≡_, List}
 use lib.Bits.{bitOr}
 use Rattle.numbers.specs.Prelude.{noRow}
-use Rattle.numbers.specs.declared.limits.Limits.{Limits}
-use Rattle.rows.specs.Prelude.{get, items, withLimits}
+use Rattle.rows.specs.Prelude.{get, items}
 use Rattle.rows.specs.declared.{header.Header.Header, item.ItemRow.ItemRow, shelf.ShelfRow.ShelfRow}
 use Rattle.rules.specs.Prelude.{sumOver}
-use Rattle.audit_counts.specs.Counts.{rowsOf, ShelfTallied}
+use Rattle.audit_counts.specs.Counts.{rowsOf, Small}
 
 -- ---- one item
 
@@ -43,15 +42,10 @@ pub record Mark : Type 0 where
 abbrev pub over : ItemRow → Mark → Mark
 over i m = record { cur = i .next .0; prev = m .cur; x = m .x + i .width; count = m .count + 1; widths = bitOr (m .widths) (i .width) }
 
--- the numbers of a row fit 16 bits
-pub record Fits16 (i : ItemRow) : Type 0 where
-  pub x : i .x ≤ 65535
-  pub width : i .width ≤ 65535
-
 -- from m on, past live items of the shelf in row `on` and no others
 pub data Lives (I : List ℕ) (used on : ℕ) (m : Mark) : Mark → Type 0 where
   none : Lives I used on m m
-  past : {n : Mark} → Lives I used on m n → n .cur < used → LiveOf on (get items I (n .cur)) → Fits (n .prev) (n .x) (get items I (n .cur)) → Fits16 (get items I (n .cur))
+  past : {n : Mark} → Lives I used on m n → n .cur < used → LiveOf on (get items I (n .cur)) → Fits (n .prev) (n .x) (get items I (n .cur)) → Small (get items I (n .cur))
       → Lives I used on m (over (get items I (n .cur)) n)
 
 -- ---- the items of a shelf, but for their alignment
