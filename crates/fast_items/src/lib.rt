@@ -4,7 +4,7 @@ ghost use Prim.Native.Nat.{_≤_};
 ghost use Rattle.numbers.specs.Prelude.{Decides};
 ghost use Rattle.rows.specs.Prelude.{itemStart, itemCapacity};
 ghost use Rattle.audit_counts.specs.Fast.{LiveOf, Fits};
-ghost use Rattle.fast_items.specs.Walks.{LivesPast, Walks};
+ghost use Rattle.fast_items.specs.Walks.{Kept, passed, firstOf, EndsSo, LivesPast, Walks};
 use numbers::index::NO_ROW;
 use rows::header::Header;
 use rows::item;
@@ -52,68 +52,61 @@ fn fits(prev: u16, x: u32, i: ItemRow) -> bool
     i.width != 0
 }
 
-// On past the live items. A loop of their own, since most items are live: it carries no more than they need.
-fn lives(
-    items: &[u16],
-    used: u16,
-    on: u16,
-    from: usize,
-    begin: usize,
-    last: u16,
-    at: u32,
-    seen: u32,
-    all: u32,
-) -> Passed
-    requires { ⌜ used ≤ itemCapacity (now items) ⌝ }
-    requires { ⌜ begin ≡ itemStart from ⌝ }
-    requires { ⌜ (seen ≤ at) × (at ≤ 131070) ⌝ }
-    ensures { λ r. ⌜ LivesPast (now (items .entry)) used on (record { cur = from; prev = last; x = at; count = seen; widths = all }) r ⌝ }
+// Past an item that stands right.
+fn past(p: Passed, i: ItemRow) -> Passed
+    requires { ⌜ (p .cur ≤ 65535) × (p .x ≤ 65535) × (p .count ≤ 131070) ⌝ }
+    ensures { λ r. ⌜ r ≡ passed p i ⌝ }
 {
-    let mut cur = from;
-    let mut start = begin;
-    let mut prev = last;
-    let mut x = at;
-    let mut count = seen;
-    let mut widths = all;
-    while cur < used as usize {
-        let i = item::item_from(items, cur, start);
-        if !live_of(on, i) {
-            return Passed {
-                right: true,
-                cur,
-                start,
-                prev,
-                x,
-                count,
-                widths,
-            };
-        }
-        if !fits(prev, x, i) {
-            return Passed {
-                right: false,
-                cur,
-                start,
-                prev,
-                x,
-                count,
-                widths,
-            };
-        }
-        prev = cur as u16;
-        x += i.width as u32;
-        count += 1;
-        widths = widths | i.width as u32;
-        cur = i.next.0 as usize;
-        start = item::item_start(i.next);
-    }
     Passed {
         right: true,
-        cur,
-        start,
-        prev,
-        x,
-        count,
-        widths,
+        cur: i.next.0 as usize,
+        start: item::item_start(i.next),
+        prev: p.cur as u16,
+        x: p.x + i.width as u32,
+        count: p.count + 1,
+        widths: p.widths | i.width as u32,
+    }
+}
+
+// On past the live items. A loop of their own, since most items are live: it carries no more than they need.
+fn lives(items: &[u16], used: u16, on: u16, from: Passed) -> Passed
+    requires { ⌜ (used ≤ itemCapacity (now items)) × Kept from ⌝ }
+    ensures { λ r. ⌜ LivesPast (now (items .entry)) used on from r ⌝ }
+{
+    let mut p = from;
+    while p.cur < used as usize {
+        let i = item::item_from(items, p.cur, p.start);
+        if !live_of(on, i) {
+            return p;
+        }
+        if !fits(p.prev, p.x, i) {
+            return Passed {
+                right: false,
+                cur: p.cur,
+                start: p.start,
+                prev: p.prev,
+                x: p.x,
+                count: p.count,
+                widths: p.widths,
+            };
+        }
+        p = past(p, i);
+    }
+    p
+}
+
+// Before the first item of a shelf. `all` is what the widths are or-ed to.
+fn first(s: ShelfRow, all: u32) -> Passed
+    ensures { λ r. ⌜ r ≡ firstOf s all ⌝ }
+{
+    Passed {
+        right: true,
+        cur: s.first_item.0 as usize,
+        start: item::item_start(s.first_item),
+        prev: NO_ROW,
+        x: s.x as u32,
+        count: 0,
+        widths: all,
     }
 }
 
@@ -125,44 +118,44 @@ const WRONG: Walked = Walked {
     widths: 0,
 };
 
-// The items of shelf `s`, which stands in row `on`: stretches of live items, and after each a free one, which no free one follows. `all` is what their
-// widths are or-ed to, `gap` the width of the free ones.
+// What was counted along a shelf's items, at their end.
+fn at_end(h: Header, s: ShelfRow, p: Passed, free: u32, gap: u32) -> Walked
+    ensures { λ w. ⌜ EndsSo h s p free gap w ⌝ }
+{
+    if p.cur != NO_ROW as usize {
+        return WRONG;
+    }
+    if (h.used_items as u32) < p.count {
+        return WRONG;
+    }
+    if p.x != s.x as u32 + h.limits.shelf_width as u32 {
+        return WRONG;
+    }
+    Walked {
+        right: true,
+        count: p.count,
+        free,
+        gap,
+        widths: p.widths,
+    }
+}
+
+// The items of shelf `s`, which stands in row `on`: runs of live items, and between them a free one, which no free one follows.
 pub fn items_right(h: Header, items: &[u16], on: u16, s: ShelfRow, all: u32) -> Walked
     requires { ⌜ h .«used_items» ≤ itemCapacity (now items) ⌝ }
     ensures { λ w. ⌜ Walks h (now (items .entry)) on s all w ⌝ }
 {
-    let mut cur = s.first_item.0 as usize;
-    let mut start = item::item_start(s.first_item);
-    let mut prev: u16 = NO_ROW;
-    let mut x = s.x as u32;
-    let mut count: u32 = 0;
-    let mut widths = all;
+    let mut p = first(s, all);
     let mut free: u32 = 0;
     let mut gap: u32 = 0;
-    while cur < h.used_items as usize {
-        let p = lives(
-            items,
-            h.used_items,
-            on,
-            cur,
-            start,
-            prev,
-            x,
-            count,
-            widths,
-        );
+    while p.cur < h.used_items as usize {
+        p = lives(items, h.used_items, on, p);
         if !p.right {
             return WRONG;
         }
-        cur = p.cur;
-        start = p.start;
-        prev = p.prev;
-        x = p.x;
-        count = p.count;
-        widths = p.widths;
-        if cur < h.used_items as usize {
-            let i = item::item_from(items, cur, start);
-            if !fits(prev, x, i) {
+        if p.cur < h.used_items as usize {
+            let i = item::item_from(items, p.cur, p.start);
+            if !fits(p.prev, p.x, i) {
                 return WRONG;
             }
             if !fast_lists::free_of(on, i) {
@@ -170,43 +163,18 @@ pub fn items_right(h: Header, items: &[u16], on: u16, s: ShelfRow, all: u32) -> 
             }
             free += 1;
             gap += i.width as u32;
-            prev = cur as u16;
-            x += i.width as u32;
-            count += 1;
-            widths = widths | i.width as u32;
-            cur = i.next.0 as usize;
-            start = item::item_start(i.next);
-            if cur < h.used_items as usize {
-                let j = item::item_from(items, cur, start);
+            p = past(p, i);
+            if p.cur < h.used_items as usize {
+                let j = item::item_from(items, p.cur, p.start);
                 if !live_of(on, j) {
                     return WRONG;
                 }
-                if !fits(prev, x, j) {
+                if !fits(p.prev, p.x, j) {
                     return WRONG;
                 }
-                prev = cur as u16;
-                x += j.width as u32;
-                count += 1;
-                widths = widths | j.width as u32;
-                cur = j.next.0 as usize;
-                start = item::item_start(j.next);
+                p = past(p, j);
             }
         }
     }
-    if cur != NO_ROW as usize {
-        return WRONG;
-    }
-    if (h.used_items as u32) < count {
-        return WRONG;
-    }
-    if x != s.x as u32 + h.limits.shelf_width as u32 {
-        return WRONG;
-    }
-    Walked {
-        right: true,
-        count,
-        free,
-        gap,
-        widths,
-    }
+    at_end(h, s, p, free, gap)
 }
