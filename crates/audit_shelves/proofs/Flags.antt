@@ -2,8 +2,9 @@
 use Rattle.numbers.specs.Library.{_≡_, refl, sym, _≢_, Bool, true, false, not, _&&_, List, ℕ, _*_, _≤_, _<_, mul-le-mul, eq-eqb, ne-eqb, lt-ltb, le-ltb}
 use Rattle.numbers.specs.Prelude.{noRow, Decides, never}
 use Rattle.rows.specs.Prelude.{get, items}
-use Rattle.rows.specs.declared.header.Header.{Header}
-use Rattle.rules.specs.Prelude.{oneFree, flag}
+use Rattle.rows.specs.declared.{header.Header.Header, shelf.ShelfRow.ShelfRow}
+use Rattle.rules.specs.Prelude.{oneFree, flag, Down, ShelfRight}
+use Rattle.audit_shelves.specs.Placed.{ShelfPlaced, FlagRight}
 
 -- ---- a shelf's empty flag
 
@@ -41,3 +42,23 @@ apart-as false here e = refl
 -- a product of two 16-bit numbers fits 32 bits
 pub product-fits : (a b : ℕ) → a ≤ 65535 → b ≤ 65535 → a * b ≤ 4294836225
 product-fits a b h k = mul-le-mul h k
+
+-- ---- the parts of what is asked of a shelf
+
+pub whole : {h : Header} {I : List ℕ} {d : Down} {s : ShelfRow} → ShelfPlaced h (d .prev) (d .column) (d .y) s → FlagRight s (flag (oneFree h I (s .«first_item» .0))) (d .underEmpty) → ShelfRight h I d s
+whole p f = record {
+  back = p .back;
+  at-column = p .at-column;
+  at-depth = p .at-depth;
+  some-depth = p .some-depth;
+  in-column = p .in-column;
+  flag-right = f .flag-is;
+  apart = f .apart;
+}
+
+pub parts : {h : Header} {I : List ℕ} {d : Down} {s : ShelfRow} → ShelfRight h I d s
+    → ShelfPlaced h (d .prev) (d .column) (d .y) s × FlagRight s (flag (oneFree h I (s .«first_item» .0))) (d .underEmpty)
+parts o = (
+  record { back = o .back; at-column = o .at-column; at-depth = o .at-depth; some-depth = o .some-depth; in-column = o .in-column },
+  record { flag-is = o .flag-right; apart = o .apart },
+)

@@ -2,6 +2,7 @@
 ghost use mathlib.Core.Path.{_≡_};
 ghost use Rattle.numbers.specs.Prelude.{Decides};
 ghost use Rattle.rules.specs.Prelude.{ShelfRight, Rule2, oneFree, flag};
+ghost use Rattle.audit_shelves.specs.Placed.{ShelfPlaced, FlagRight};
 use numbers::index::ItemIndex;
 use numbers::index::NO_ROW;
 use numbers::index::ShelfIndex;
@@ -27,17 +28,9 @@ fn empty_flag(h: Header, items: &[u16], first: ItemIndex) -> u16
     1
 }
 
-// Whether a shelf is right where the walk has come to.
-fn shelf_right(
-    h: Header,
-    items: &[u16],
-    prev: u16,
-    column: u16,
-    y: u16,
-    under_empty: bool,
-    s: ShelfRow,
-) -> bool
-    ensures { λ r. ⌜ Decides r (ShelfRight h (now (items .entry)) (record { prev = prev; column = column; y = y; underEmpty = «under_empty» }) s) ⌝ }
+// Whether a shelf stands where the walk has come to.
+pub fn shelf_placed(h: Header, prev: u16, column: u16, y: u16, s: ShelfRow) -> bool
+    ensures { λ r. ⌜ Decides r (ShelfPlaced h prev column y s) ⌝ }
 {
     if s.prev.0 != prev {
         return false;
@@ -54,13 +47,38 @@ fn shelf_right(
     if (h.limits.height as u32) < y as u32 + s.height as u32 {
         return false;
     }
-    if s.is_empty != empty_flag(h, items, s.first_item) {
+    true
+}
+
+// Whether a shelf has the flag that is due, and no empty shelf follows an empty one.
+pub fn flag_right(s: ShelfRow, due: u16, under_empty: bool) -> bool
+    ensures { λ r. ⌜ Decides r (FlagRight s due «under_empty») ⌝ }
+{
+    if s.is_empty != due {
         return false;
     }
     if under_empty {
         return s.is_empty != 1;
     }
     true
+}
+
+// Whether a shelf is right where the walk has come to.
+fn shelf_right(
+    h: Header,
+    items: &[u16],
+    prev: u16,
+    column: u16,
+    y: u16,
+    under_empty: bool,
+    s: ShelfRow,
+) -> bool
+    ensures { λ r. ⌜ Decides r (ShelfRight h (now (items .entry)) (record { prev = prev; column = column; y = y; underEmpty = «under_empty» }) s) ⌝ }
+{
+    if !shelf_placed(h, prev, column, y, s) {
+        return false;
+    }
+    flag_right(s, empty_flag(h, items, s.first_item), under_empty)
 }
 
 // Rule 2.
