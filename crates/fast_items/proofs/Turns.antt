@@ -37,6 +37,7 @@ module _ {h : Header} {I : List ℕ} {on : ℕ} {s : ShelfRow} {all free gap : �
   at-ended o = record {
     tallied = λ e. rw (o .counts e) (on-tallied (at .on-shelf) (o .ended e .stop) (o .ended e .few) (o .ended e .wide));
     gap-most = λ e. rw (o .counts e) (on-gap (at .on-shelf) (o .ended e .stop) (o .ended e .few) (o .ended e .wide));
+    free-most = λ e. let few : free ≤ h .«used_items» = omega (arith, at .on-shelf .turn .free-most, o .ended e .few) in rw (o .counts e) few;
     even = λ e. rw (o .counts e) (on-even (at .on-shelf) (o .ended e .stop) (o .ended e .few) (o .ended e .wide));
   }
 

@@ -60,4 +60,5 @@ pub record Walks (h : Header) (I : List ℕ) (on : ℕ) (s : ShelfRow) (all : �
       w .right ≡ true
       → ShelfTallied (loose h) I on s (record { right = true; count = w .count; free = w .free; live = h .limits .«shelf_width» - w .gap; stray = 0 })
   pub gap-most : w .right ≡ true → w .gap ≤ h .limits .«shelf_width»
+  pub free-most : w .right ≡ true → w .free ≤ h .«used_items»
   pub even : w .right ≡ true → Even h I s all (w .widths)

@@ -52,13 +52,13 @@ items-right-spec =
     (λ c. rw (c .first .ensures) (at-first _ _ _ _ _ (omega arith) (omega arith)))
     (λ c. search needs)
     (λ c κs. (c .before .before .before .before .before .before .pre, c .before .before .before .loop .inv .kept))
-    (λ c. record { tallied = never; gap-most = never; even = never })
+    (λ c. record { tallied = never; gap-most = never; free-most = never; even = never })
     (λ c. search needs)
     (λ c κs. (omega (arith, c .before .before .before .before .before .before .before .before .before .before .before .before .pre, c .if3 .taken), c .before .before .before .before .before .lives .ensures .kept .start-is))
     (λ c κs. tt)
-    (λ c. record { tallied = never; gap-most = never; even = never })
+    (λ c. record { tallied = never; gap-most = never; free-most = never; even = never })
     (λ c κs. tt)
-    (λ c. record { tallied = never; gap-most = never; even = never })
+    (λ c. record { tallied = never; gap-most = never; free-most = never; even = never })
     (λ c. omega (arith, free-fits (c .before .before .before .before .before .before .before .before .before .before .before .before .before .before .loop .inv)))
     (λ c. search needs)
     (λ c. omega (arith, gap-fits (c .before .before .before .before .before .before .before .before .before .before .before .before .before .before .before .loop .inv)))
@@ -71,9 +71,9 @@ items-right-spec =
     let kept = kept-told (c .before .before .before .before .before .before .before .before .before .before .before .before .before .before .before .lives .ensures .kept) fit (omega (arith, c .before .before .before .before .before .before .before .before .before .item-from .ok)) _ (c .before .before .before .past .ensures) in
     (omega (arith, c .before .before .before .before .before .before .before .before .before .before .before .before .before .before .before .before .before .before .before .before .before .before .pre, c .if6 .taken), kept .start-is))
     (λ c κs. tt)
-    (λ c. record { tallied = never; gap-most = never; even = never })
+    (λ c. record { tallied = never; gap-most = never; free-most = never; even = never })
     (λ c κs. tt)
-    (λ c. record { tallied = never; gap-most = never; even = never })
+    (λ c. record { tallied = never; gap-most = never; free-most = never; even = never })
     (λ c κs.
     let fit = allowed (c .before .before .before .before .before .before .before .before .before .before .before .before .before .fits2 .ensures) (c .before .before .before .before .before .before .before .before .before .before .before .before .if4 .left) in
     let kept = kept-told (c .before .before .before .before .before .before .before .before .before .before .before .before .before .before .before .before .before .before .before .before .lives .ensures .kept) fit (omega (arith, c .before .before .before .before .before .before .before .before .before .before .before .before .before .before .item-from .ok)) _ (c .before .before .before .before .before .before .before .before .past .ensures) in

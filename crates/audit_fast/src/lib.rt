@@ -1,0 +1,122 @@
+// A fast yes: one walk over the shelves, their items and their free lists, which stops at the first thing that is not right. Where it says yes the exact
+// audit would too; where it says no, that has to be asked.
+ghost use mathlib.Core.Path.{_≡_};
+ghost use lib.Dec.{eqb};
+ghost use Prim.Native.Nat.{_≤_};
+ghost use Rattle.rows.specs.Prelude.{itemCapacity};
+ghost use Rattle.rules.specs.Prelude.{Rule1, flag};
+ghost use Rattle.audit_fast.specs.Found.{ShelfFound, FoundSo};
+use fast_items::Walked;
+use numbers::index::NO_ROW;
+use numbers::index::ShelfIndex;
+use rows::header::Header;
+use rows::shelf;
+use rows::shelf::ShelfRow;
+
+// Whether the shelf chain is right, and then how many shelves and items there are, the live area, and all widths, or-ed.
+pub struct Found {
+    pub right: bool,
+    pub shelves: u16,
+    pub items: u32,
+    pub area: u64,
+    pub widths: u32,
+}
+
+const NOTHING: Walked = Walked {
+    right: false,
+    count: 0,
+    free: 0,
+    gap: 0,
+    widths: 0,
+};
+
+const WRONG: Found = Found {
+    right: false,
+    shelves: 0,
+    items: 0,
+    area: 0,
+    widths: 0,
+};
+
+// The flag of a shelf with free items of this width together: no two free items adjoin, so that it's one free item exactly when they are as wide as it is.
+fn flag_due(h: Header, gap: u32) -> u16
+    ensures { λ r. ⌜ r ≡ flag (eqb gap (h .limits .«shelf_width»)) ⌝ }
+{
+    if gap == h.limits.shelf_width as u32 {
+        return 1;
+    }
+    0
+}
+
+// One shelf: its items, its free list, and its flag.
+fn one_shelf(h: Header, items: &[u16], on: u16, s: ShelfRow, under_empty: bool, all: u32) -> Walked
+    requires { ⌜ (h .«used_items» ≤ itemCapacity (now items)) × (1 ≤ h .limits .«shelf_width») ⌝ }
+    ensures { λ w. ⌜ ShelfFound h (now (items .entry)) on s «under_empty» all w ⌝ }
+{
+    let w = fast_items::items_right(h, items, on, s, all);
+    if !w.right {
+        return w;
+    }
+    if !fast_lists::free_list(h, items, on, s.first_unallocated, w.free) {
+        return NOTHING;
+    }
+    if !audit_shelves::flag_right(s, flag_due(h, w.gap), under_empty) {
+        return NOTHING;
+    }
+    w
+}
+
+// All the shelves, with their items and free lists.
+fn all_shelves(h: Header, shelves: &[u16], items: &[u16]) -> Found
+    requires { ⌜ Rule1 h (now shelves) (now items) ⌝ }
+    ensures { λ r. ⌜ FoundSo h (now (shelves .entry)) (now (items .entry)) r ⌝ }
+{
+    let mut prev: u16 = NO_ROW;
+    let mut column: u16 = 0;
+    let mut y: u16 = 0;
+    let mut under_empty = false;
+    let mut cur: u16 = 0;
+    let mut fuel: u16 = h.used_shelves;
+    let mut count: u32 = 0;
+    let mut area: u64 = 0;
+    let mut widths: u32 = 0;
+    while cur < h.used_shelves {
+        if fuel == 0 {
+            return WRONG;
+        }
+        let s = shelf::shelf_there(shelves, ShelfIndex(cur));
+        if !audit_shelves::shelf_placed(h, prev, column, y, s) {
+            return WRONG;
+        }
+        let w = one_shelf(h, items, cur, s, under_empty, widths);
+        if !w.right {
+            return WRONG;
+        }
+        count += w.count;
+        area += (h.limits.shelf_width as u32 - w.gap) as u64 * s.height as u64;
+        widths = w.widths;
+        prev = cur;
+        cur = s.next.0;
+        fuel -= 1;
+        y += s.height;
+        under_empty = s.is_empty == 1;
+        if y == h.limits.height {
+            column += 1;
+            y = 0;
+            under_empty = false;
+        }
+    }
+    if cur != NO_ROW {
+        return WRONG;
+    }
+    if y != 0 {
+        return WRONG;
+    }
+    Found {
+        right: column == limit_checks::columns(h.limits),
+        shelves: h.used_shelves - fuel,
+        items: count,
+        area,
+        widths,
+    }
+}
