@@ -1,10 +1,10 @@
 -- What the fast walk has found where it says yes: of one shelf, and of all of them. Assumes nothing.
-use Rattle.numbers.specs.Library.{ℕ, _%_, _^_, _≡_, Bool, true, List, length}
+use Rattle.numbers.specs.Library.{ℕ, _+_, _%_, _^_, _≡_, Bool, true, List, length}
 use Rattle.rows.specs.Prelude.{get, shelves}
 use Rattle.rows.specs.declared.{header.Header.Header, shelf.ShelfRow.ShelfRow}
 use Rattle.chains.specs.Prelude.{Each, rowsFrom}
-use Rattle.rules.specs.Prelude.{flag, oneFree, freeNext, shelvesMet, itemsMet, Rule2, Rule3, sumOver}
-use Rattle.audit_counts.specs.Counts.{FreeListAt, allFreeMet, AllCounts}
+use Rattle.rules.specs.Prelude.{flag, oneFree, freeNext, shelvesMet, itemsMet, freedShelvesMet, freedItemsMet, Rule2, Rule3, sumOver}
+use Rattle.audit_counts.specs.Counts.{FreeListAt, allFreeMet, AllCounts, FreedShelves, FreedItems}
 use Rattle.audit_counts.specs.Fast.{loose, oddOf}
 use Rattle.audit_shelves.specs.Placed.{FlagRight}
 use Rattle.fast_items.specs.declared.Walked.{Walked}
@@ -33,3 +33,14 @@ pub record ShelvesFound (h : Header) (S I : List ℕ) (f : Found) : Type 0 where
 
 pub record FoundSo (h : Header) (S I : List ℕ) (f : Found) : Type 0 where
   pub yes : f .right ≡ true → ShelvesFound h S I f
+
+-- the freed rows are right, and with those on the chains they are all the used ones
+pub record FreedFound (h : Header) (S I : List ℕ) (f : Found) : Type 0 where
+  pub freed-shelves : FreedShelves h S
+  pub all-shelves : f .shelves + length (freedShelvesMet h S) ≡ h .«used_shelves»
+  pub freed-items : FreedItems h I
+  pub all-items : f .items + length (freedItemsMet h I) ≡ h .«used_items»
+
+-- a test that can say yes: where it does, A holds
+pub record SaysYes (test : Bool) (A : Type 0) : Type 0 where
+  pub sound : test ≡ true → A

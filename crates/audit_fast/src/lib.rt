@@ -4,8 +4,8 @@ ghost use mathlib.Core.Path.{_≡_};
 ghost use lib.Dec.{eqb};
 ghost use Prim.Native.Nat.{_≤_};
 ghost use Rattle.rows.specs.Prelude.{itemCapacity};
-ghost use Rattle.rules.specs.Prelude.{Rule1, flag};
-ghost use Rattle.audit_fast.specs.Found.{ShelfFound, FoundSo};
+ghost use Rattle.rules.specs.Prelude.{Rule1, Passes, flag};
+ghost use Rattle.audit_fast.specs.Found.{ShelfFound, FoundSo, FreedFound, SaysYes};
 use fast_items::Walked;
 use numbers::index::NO_ROW;
 use numbers::index::ShelfIndex;
@@ -119,4 +119,44 @@ fn all_shelves(h: Header, shelves: &[u16], items: &[u16]) -> Found
         area,
         widths,
     }
+}
+
+// The rows that no shelf or item chain holds: with those that one does they are all the used rows.
+fn freed_right(h: Header, shelves: &[u16], items: &[u16], f: Found) -> bool
+    requires { ⌜ Rule1 h (now shelves) (now items) × (f .items ≤ h .«used_items») ⌝ }
+    ensures { λ r. ⌜ SaysYes r (FreedFound h (now (shelves .entry)) (now (items .entry)) f) ⌝ }
+{
+    let s = audit_lists::freed_shelves(h, shelves);
+    if !s.right {
+        return false;
+    }
+    if f.shelves as u64 + s.count as u64 != h.used_shelves as u64 {
+        return false;
+    }
+    fast_lists::freed_items(h, items, h.used_items - f.items as u16)
+}
+
+// Whether one walk finds all the rules kept. It tests widths against an alignment that is a power of two; for another it says no at once.
+pub fn says_yes(h: Header, shelves: &[u16], items: &[u16]) -> bool
+    requires { ⌜ Rule1 h (now shelves) (now items) ⌝ }
+    ensures { λ r. ⌜ SaysYes r (Passes h (now (shelves .entry)) (now (items .entry))) ⌝ }
+{
+    let step = limit_checks::along_step(h.limits);
+    if step & (step - 1) != 0 {
+        return false;
+    }
+    let f = all_shelves(h, shelves, items);
+    if !f.right {
+        return false;
+    }
+    if f.widths % step != 0 {
+        return false;
+    }
+    if f.area != h.occupied as u64 {
+        return false;
+    }
+    if (h.used_items as u32) < f.items {
+        return false;
+    }
+    freed_right(h, shelves, items, f)
 }
