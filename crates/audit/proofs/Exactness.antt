@@ -25,6 +25,15 @@ differ : {A : Type 0} (v w : Verdict) → (order v ≡ order w → ⊥) → v �
 differ v w n e = absurd (n (ap order e))
 
 module _ (h : Header) (S I : List ℕ) where
+  pub holds : rules.Passes h S I → Exact h S I says.Passes
+  holds a = record {
+    passes = (λ e. a, λ p. refl);
+    rule1 = (differ says.Passes says.Rule1 (λ q. omega arith), λ p. absurd (p (a .rule1)));
+    rule2 = (differ says.Passes says.Rule2 (λ q. omega arith), λ p. absurd (p .1 (a .rule2)));
+    rule3 = (differ says.Passes says.Rule3 (λ q. omega arith), λ p. absurd (p .2 (a .rule3)));
+    rules5to7 = (differ says.Passes says.Rules5To7 (λ q. omega arith), λ p. absurd (p .3 (a .rule5, a .rule6, a .rule7)));
+  }
+
   pub fails-1 : (Rule1 h S I → ⊥) → Exact h S I says.Rule1
   fails-1 n = record {
     passes = (differ says.Rule1 says.Passes (λ q. omega arith), λ p. absurd (n (p .rule1)));
@@ -65,20 +74,15 @@ module _ (h : Header) (S I : List ℕ) where
         }
 
         pub all-hold : ListsAgree h S I t → Exact h S I says.Passes
-        all-hold a =
-            let five = agree-5 one two three t n a in
-            let six = agree-6 one two three t n a in
-            let seven = agree-7 one two three t n a in
-            record {
-              passes = (
-                λ e. record { rule1 = one; rule2 = two; rule3 = three; rule4 = no-row-twice h S I one two three; rule5 = five; rule6 = six; rule7 = seven },
-                λ p. refl,
-              );
-              rule1 = (differ says.Passes says.Rule1 (λ q. omega arith), λ p. absurd (p one));
-              rule2 = (differ says.Passes says.Rule2 (λ q. omega arith), λ p. absurd (p .1 two));
-              rule3 = (differ says.Passes says.Rule3 (λ q. omega arith), λ p. absurd (p .2 three));
-              rules5to7 = (differ says.Passes says.Rules5To7 (λ q. omega arith), λ p. absurd (p .3 (five, six, seven)));
-            }
+        all-hold a = holds (record {
+          rule1 = one;
+          rule2 = two;
+          rule3 = three;
+          rule4 = no-row-twice h S I one two three;
+          rule5 = agree-5 one two three t n a;
+          rule6 = agree-6 one two three t n a;
+          rule7 = agree-7 one two three t n a;
+        })
 
 -- ---- a verdict as a test
 
