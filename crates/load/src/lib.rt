@@ -36,7 +36,7 @@ fn limits_in(block: &[u8]) -> Limits
 }
 
 // The header that stands in the first block.
-fn header_in(block: &[u8]) -> Header
+pub fn header_in(block: &[u8]) -> Header
     requires { ⌜ length (now block) ≡ 512 ⌝ }
     ensures { λ r. ⌜ r ≡ headerIn (wordsOf (now (block .entry))) ⌝ }
 {
