@@ -203,7 +203,7 @@ fn say_why(n: u16, image: &[u8], shelves: &[u16], items: &[u16]) {
         say_length(0);
         return;
     }
-    let h = load::header_in(&image[0..512]);
+    let h = image_read::header_in(&image[0..512]);
     if n == refusal::IMAGE {
         say_fault(image, h);
         return;
