@@ -1,5 +1,5 @@
 -- What the tests of one block say: its heading, the words after its data, and its check. Assumes nothing.
-use Rattle.numbers.specs.Library.{ℕ, _+_, _-_, _*_, _%_, _≤_, _≡_, refl, sym, ap, _∙_, false, List, [], _++_, _∷_, length, getD, take, drop, arith, eqb, eqb-true, eq-eqb}
+use Rattle.numbers.specs.Library.{ℕ, _+_, _-_, _*_, _%_, _≤_, _≡_, refl, sym, ap, _∙_, Bool, false, List, [], _++_, _∷_, length, getD, take, drop, arith, eqb, eqb-true, eq-eqb}
 use lib.Seq.{take-add}
 use Rattle.numbers.specs.Prelude.{Decides, refuted}
 use Rattle.image_form.specs.Bytes.{wordsOf, total}
@@ -7,7 +7,7 @@ use Rattle.image_form.specs.Blocks.{heading}
 use Rattle.image_form.specs.Form1.{form1}
 use Rattle.image_form.proofs.Words.{length-words, words-take, words-drop, total-append}
 use Rattle.image_form.proofs.Blocks.{unused, block-right, right-front, right-unused, right-check}
-use Rattle.blocks.specs.Right.{BlockRight}
+use Rattle.blocks.specs.Right.{BlockRight, unusedSum}
 
 -- a test of equality
 pub equal : {A : Type 0} (a b : ℕ) → (a ≡ b → A) → (A → a ≡ b) → Decides (eqb a b) A
@@ -25,6 +25,35 @@ module _ (bytes : List ℕ) (long : length bytes ≡ 512) where
   three (a ∷ []) e = absurd (omega arith)
   three (a ∷ b ∷ []) e = absurd (omega arith)
   three (a ∷ b ∷ c ∷ ws) e = refl
+
+  module _ (count : ℕ) (few : count ≤ 252) where
+    -- the parts of the bytes that are summed are parts of the words
+    after-data : unusedSum count bytes ≡ total (unused words count many few)
+    unfolding unusedSum
+    after-data =
+        let a : 6 + 2 * count ≡ 2 * (3 + count) = omega arith in
+        let b : 510 - 2 * (3 + count) ≡ 2 * (252 - count) = omega arith in
+        rw (a, b) (ap total (words-take (252 - count) (drop (2 * (3 + count)) bytes) ∙ ap (take (252 - count)) (words-drop (3 + count) bytes)))
+
+    to-data : total (wordsOf (take (6 + 2 * count - 0) bytes)) ≡ total (take (3 + count) words)
+    to-data = let a : 6 + 2 * count - 0 ≡ 2 * (3 + count) = omega arith in rw a (ap total (words-take (3 + count) bytes))
+
+    -- all words before the check
+    to-check : total (wordsOf (take 510 bytes)) ≡ total (take (3 + count) words) + unusedSum count bytes
+    to-check =
+        let a : 255 ≡ 3 + count + (252 - count) = omega arith in
+        let b : wordsOf (take 510 bytes) ≡ take (3 + count) words ++ unused words count many few =
+        words-take 255 bytes ∙ ap (λ (n : ℕ). take n words) a ∙ take-add (3 + count) (252 - count) words in
+        ap total b ∙ total-append (take (3 + count) words) (unused words count many few) ∙ omega (arith, after-data)
+
+    -- those in front make the whole sum where those after the data are zero, and only there
+    pub front-decides : (front sum : ℕ) → front ≡ total (wordsOf (take (6 + 2 * count - 0) bytes)) → sum ≡ total (wordsOf (take 510 bytes))
+        → Decides (eqb front sum) (unusedSum count bytes ≡ 0)
+    front-decides front sum f s = equal front sum (λ e. omega (arith, to-data, to-check)) (λ z. omega (arith, to-data, to-check))
+
+    pub rest-decides : (rest : ℕ) → rest ≡ total (wordsOf (take (510 - (6 + 2 * count)) (drop (6 + 2 * count) bytes))) → Decides (eqb rest 0) (unusedSum count bytes ≡ 0)
+    unfolding unusedSum
+    rest-decides rest e = equal rest 0 (λ z. sym e ∙ z) (λ z. e ∙ z)
 
   module _ (number kind rows : ℕ) where
     abbrev Heading : Type 0
@@ -51,37 +80,24 @@ module _ (bytes : List ℕ) (long : length bytes ≡ 512) where
       abbrev Right : Type 0
       Right = BlockRight number kind rows count words
 
-      -- the parts of the bytes that are summed are parts of the words
-      after-data : wordsOf (take (510 - (6 + 2 * count)) (drop (6 + 2 * count) bytes)) ≡ unused words count many few
-      after-data =
-          let a : 6 + 2 * count ≡ 2 * (3 + count) = omega arith in
-          let b : 510 - 2 * (3 + count) ≡ 2 * (252 - count) = omega arith in
-          rw (a, b) (words-take (252 - count) (drop (2 * (3 + count)) bytes) ∙ ap (take (252 - count)) (words-drop (3 + count) bytes))
-
-      -- all words before the check: where those after the data are zero, they add nothing
-      to-check : wordsOf (take 510 bytes) ≡ take (3 + count) words ++ unused words count many few
-      to-check =
-          let a : 255 ≡ 3 + count + (252 - count) = omega arith in
-          words-take 255 bytes ∙ ap (λ (n : ℕ). take n words) a ∙ take-add (3 + count) (252 - count) words
-
       pub wrong-heading : (Heading → ⊥) → Decides false Right
       unfolding BlockRight form1
       wrong-heading n = refuted (λ r. n (right-front words count many few number kind rows r))
 
-      module _ (sum : ℕ) (is : sum ≡ total (wordsOf (take (510 - (6 + 2 * count)) (drop (6 + 2 * count) bytes)))) where
-        sum-is : sum ≡ total (unused words count many few)
-        sum-is = is ∙ ap total after-data
+      module _ (sum check : ℕ) (is : sum ≡ total (wordsOf (take 510 bytes))) (k : check ≡ getD words 255 0) where
+        -- where the words after the data are zero, they add nothing
+        front-sum : unusedSum count bytes ≡ 0 → sum % 65535 ≡ total (take (3 + count) words) % 65535
+        front-sum z = ap (λ (n : ℕ). n % 65535) (is ∙ to-check count few ∙ omega (arith, z))
 
-        pub wrong-unused : (sum ≡ 0 → ⊥) → Decides false Right
+        pub wrong-check : (sum % 65535 ≡ check → ⊥) → Decides false Right
         unfolding BlockRight form1
-        wrong-unused n = refuted (λ r. n (sum-is ∙ right-unused words count many few number kind rows r))
+        wrong-check n =
+            refuted
+            (λ r. n (front-sum (after-data count few ∙ right-unused words count many few number kind rows r) ∙ right-check words count many few number kind rows r ∙ sym k))
 
-        pub last-of-block : Heading → sum ≡ 0 → (front check : ℕ) → front ≡ total (wordsOf (take 510 bytes)) → check ≡ getD words 255 0
-            → Decides (eqb (front % 65535) check) Right
+        pub last-of-block : Heading → sum % 65535 ≡ check → {test : Bool} → Decides test (unusedSum count bytes ≡ 0) → Decides test Right
         unfolding BlockRight form1
-        last-of-block h z front check f k =
-            let f′ : front % 65535 ≡ total (take (3 + count) words) % 65535 =
-            ap (λ (n : ℕ). n % 65535) (f ∙ ap total to-check ∙ total-append (take (3 + count) words) (unused words count many few) ∙ omega (arith, sum-is)) in
-            equal (front % 65535) check
-            (λ e. block-right words count many few number kind rows h (sym sum-is ∙ z) (sym f′ ∙ e ∙ k))
-            (λ r. f′ ∙ right-check words count many few number kind rows r ∙ sym k)
+        last-of-block h e d = record {
+          sound = λ t. block-right words count many few number kind rows h (sym (after-data count few) ∙ d .sound t) (sym (front-sum (d .sound t)) ∙ e ∙ k);
+          complete = λ r. d .complete (after-data count few ∙ right-unused words count many few number kind rows r);
+        }

@@ -7,7 +7,7 @@ ghost use Rattle.numbers.specs.Prelude.{Decides};
 ghost use Rattle.image_form.specs.Bytes.{bytesOf, wordsOf, total};
 ghost use Rattle.image_form.specs.Blocks.{heading, block};
 ghost use Rattle.image_form.specs.Form1.{form1};
-ghost use Rattle.blocks.specs.Right.{BlockRight};
+ghost use Rattle.blocks.specs.Right.{BlockRight, unusedSum};
 
 // The three words in front: the block's number, the form with the kind above it, and the rows.
 fn heading(number: u16, kind: u16, rows: u16) -> [u16; 3]
@@ -53,6 +53,19 @@ fn heading_right(block: &[u8], number: u16, kind: u16, rows: u16) -> bool
     words::word(block, 2) == rows
 }
 
+// Whether the words of the data after its first `count` are all zero, where `sum` is that of the words before the check. The fewer are summed: the words
+// after these, or those in front, which then make the whole sum.
+fn unused_zero(block: &[u8], count: usize, sum: u32) -> bool
+    requires { ⌜ (length (now block) ≡ 512) × (count ≤ 252) × (sum ≡ total (wordsOf (take 510 (now block)))) ⌝ }
+    ensures { λ r. ⌜ Decides r (unusedSum count (now (block .entry)) ≡ 0) ⌝ }
+{
+    let end = 6 + 2 * count;
+    if count < 126 {
+        return words::sum_of_words(&block[0..end]) == sum;
+    }
+    words::sum_of_words(&block[end..510]) == 0
+}
+
 // Whether this is the block with that heading and with the first `count` words of its data, all others of them zero.
 pub fn block_right(block: &[u8], number: u16, kind: u16, rows: u16, count: usize) -> bool
     requires { ⌜ (length (now block) ≡ 512) × (kind < 256) × (count ≤ 252) ⌝ }
@@ -61,9 +74,9 @@ pub fn block_right(block: &[u8], number: u16, kind: u16, rows: u16, count: usize
     if !heading_right(block, number, kind, rows) {
         return false;
     }
-    let end = 6 + 2 * count;
-    if words::sum_of_words(&block[end..510]) != 0 {
+    let sum = words::sum_of_words(&block[0..510]);
+    if sum % 65535 != words::word(block, 255) as u32 {
         return false;
     }
-    words::sum_of_words(&block[0..510]) % 65535 == words::word(block, 255) as u32
+    unused_zero(block, count, sum)
 }

@@ -11,8 +11,8 @@ use Rattle.image_form.proofs.Tables.{same-numbers}
 use Rattle.image_promises.specs.Promises.{savingSays, SavedSo, Saves, Holds, LoadedSo, Loads, wrong, few, copied}
 use Rattle.image_promises.specs.declared.answers.Saving.{Saving}
 use Rattle.image_promises.specs.declared.answers.Saving.the-variants as saving
-use Rattle.load.specs.Right.{shelfNumbers, itemNumbers}
-use Rattle.load.proofs.Standing.{same-sizes, Stands, holds-stands}
+use Rattle.image_read.specs.Right.{shelfNumbers, itemNumbers}
+use Rattle.image_read.proofs.Standing.{same-sizes, Stands, holds-stands}
 
 -- an image is a list of bytes
 abbrev pub Bytes : List ℕ → Type 0

@@ -17,7 +17,7 @@ pub struct Layout {
 }
 
 // How many rows block b of the kind has.
-fn rows_in(k: Layout, used: usize, b: usize) -> usize
+pub fn rows_in(k: Layout, used: usize, b: usize) -> usize
     requires { ⌜ (b * k .most ≤ used) × (used ≤ 65535) × (k .most * k .width ≤ 252) ⌝ }
     ensures { λ r. ⌜ Rows k used b r ⌝ }
 {

@@ -1,7 +1,8 @@
 -- `load`: 9, then 7, then the rows copied; 3 or the atlas. Assumes nothing.
 use Rattle.numbers.specs.Library.{needs, arith}
 use Rattle.numbers.specs.Prelude.{denied, allowed}
-use Rattle.load.proofs.Loaded.{first-there, ends-there, loads-9, loads-7, loads}
+use Rattle.image_read.proofs.Judging.{first-there, ends-there}
+use Rattle.load.proofs.Loaded.{loads-9, loads-7, loads}
 use Rattle.load.proofs.load.Statement.{statement}
 use Rattle.load.proofs.load.Tie as tie
 

@@ -1,8 +1,8 @@
 -- `limits_in`: six words. Assumes nothing.
 use Rattle.numbers.specs.Library.{needs}
-use Rattle.load.specs.Right.{headerIn}
-use Rattle.load.proofs.limits_in.Statement.{statement}
-use Rattle.load.proofs.limits_in.Tie as tie
+use Rattle.image_read.specs.Right.{headerIn}
+use Rattle.image_read.proofs.limits_in.Statement.{statement}
+use Rattle.image_read.proofs.limits_in.Tie as tie
 
 returns : tie.Need-returns
 unfolding headerIn

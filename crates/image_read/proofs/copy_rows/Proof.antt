@@ -5,9 +5,9 @@ use Rattle.image_form.specs.Form1.{shelfRows, itemRows}
 use Rattle.image_form.proofs.Tables.{rows-hold}
 use Rattle.row_blocks.specs.Layout.{layoutOf}
 use Rattle.image_sizes.proofs.Fitting.{shelves-laid, items-laid}
-use Rattle.load.proofs.Loaded.{part-of-blocks}
-use Rattle.load.proofs.copy_rows.Statement.{statement}
-use Rattle.load.proofs.copy_rows.Tie as tie
+use Rattle.image_read.proofs.Judging.{part-of-blocks}
+use Rattle.image_read.proofs.copy_rows.Statement.{statement}
+use Rattle.image_read.proofs.copy_rows.Tie as tie
 
 part-copy-rows-end : tie.Need-part-copy-rows-end
 part-copy-rows-end c =

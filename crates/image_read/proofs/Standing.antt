@@ -18,7 +18,7 @@ use Rattle.image_sizes.specs.Sizes.{SizesOf}
 use Rattle.image_sizes.specs.declared.Sizes.{Sizes}
 use Rattle.image_sizes.proofs.Fitting.{shelves-laid, items-laid, all-shelves, all-items}
 use Rattle.image_promises.specs.Promises.{Holds}
-use Rattle.load.specs.Right.{headerIn, headerBlock, shelfBlocks, itemBlocks, RowsRight, Right, shelfNumbers, itemNumbers}
+use Rattle.image_read.specs.Right.{headerIn, headerBlock, shelfBlocks, itemBlocks, RowsRight, Right, shelfNumbers, itemNumbers}
 
 -- a header has one choice of sizes
 pub same-sizes : {h : Header} {y z : Sizes} → SizesOf h y → SizesOf h z → y ≡ z

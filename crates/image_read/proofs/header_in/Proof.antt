@@ -1,8 +1,8 @@
 -- `header_in`: its limits and six words more. Assumes nothing.
 use Rattle.numbers.specs.Library.{needs}
-use Rattle.load.specs.Right.{headerIn}
-use Rattle.load.proofs.header_in.Statement.{statement}
-use Rattle.load.proofs.header_in.Tie as tie
+use Rattle.image_read.specs.Right.{headerIn}
+use Rattle.image_read.proofs.header_in.Statement.{statement}
+use Rattle.image_read.proofs.header_in.Tie as tie
 
 returns : tie.Need-returns
 unfolding headerIn

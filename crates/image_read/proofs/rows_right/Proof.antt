@@ -2,9 +2,9 @@
 use Rattle.numbers.specs.Library.{needs, arith}
 use Rattle.numbers.specs.Prelude.{denied, allowed}
 use Rattle.image_sizes.proofs.Fitting.{shelves-laid, items-laid}
-use Rattle.load.proofs.Loaded.{part-of-blocks, shelves-wrong, items-decide}
-use Rattle.load.proofs.rows_right.Statement.{statement}
-use Rattle.load.proofs.rows_right.Tie as tie
+use Rattle.image_read.proofs.Judging.{part-of-blocks, shelves-wrong, items-decide}
+use Rattle.image_read.proofs.rows_right.Statement.{statement}
+use Rattle.image_read.proofs.rows_right.Tie as tie
 
 rows-right-requires : tie.Need-rows-right-requires
 rows-right-requires c κs =

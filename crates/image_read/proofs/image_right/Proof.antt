@@ -1,9 +1,9 @@
 -- `image_right`: the header block, the length that its used rows ask for, and the blocks of the rows. Assumes nothing.
-use Rattle.numbers.specs.Library.{needs}
+use Rattle.numbers.specs.Library.{needs, arith}
 use Rattle.numbers.specs.Prelude.{denied, allowed}
-use Rattle.load.proofs.Loaded.{too-short, header-wrong, other-length, rows-decide}
-use Rattle.load.proofs.image_right.Statement.{statement}
-use Rattle.load.proofs.image_right.Tie as tie
+use Rattle.image_read.proofs.Judging.{too-short, header-wrong, other-length, rows-decide}
+use Rattle.image_read.proofs.image_right.Statement.{statement}
+use Rattle.image_read.proofs.image_right.Tie as tie
 
 returns-2 : tie.Need-returns-2
 returns-2 c =
@@ -14,12 +14,12 @@ returns-3 : tie.Need-returns-3
 returns-3 c =
     let sized = c .before .before in
     let read = sized .before in
-    other-length _ (read .header-in .ensures) (sized .sizes-of .ensures) (c .if3 .taken)
+    other-length _ (read .header-in .ensures) (sized .sizes-of .ensures) (λ e. omega (arith, c .if3 .taken))
 
 rows-right-requires : tie.Need-rows-right-requires
 rows-right-requires c κs =
     let sized = c .before .before in
-    (sized .sizes-of .ensures, c .if3 .left)
+    (sized .sizes-of .ensures, omega (arith, c .if3 .left))
 
 returns-4 : tie.Need-returns-4
 returns-4 c =
