@@ -197,32 +197,34 @@ impl Sides {
     }
 }
 
-/// Below so many live items a request, from there on a request or a release at even odds.
+/// Sides of requests, from and to, and how many items are to be live.
 struct Load {
     sides: (i32, i32),
     live: usize,
 }
 
 impl Load {
-    fn side(&self, random: &mut Random) -> i32 {
-        self.sides.0 + random.below((self.sides.1 - self.sides.0 + 1) as u64) as i32
-    }
-
     fn grant(&self, s: &mut Sides, random: &mut Random) {
-        let (w, h) = (self.side(random), self.side(random));
+        let mut side = || self.sides.0 + random.below((self.sides.1 - self.sides.0 + 1) as u64) as i32;
+        let (w, h) = (side(), side());
         s.allocate(w, h);
     }
 
+    fn release(&self, s: &mut Sides, random: &mut Random) {
+        let at = random.below(s.live.len() as u64) as usize;
+        s.release(at);
+    }
+
+    /// Below so many live items a request, from there on a request or a release at even odds.
     fn turn(&self, s: &mut Sides, random: &mut Random) {
         if s.live.len() < self.live || random.below(2) == 0 {
             self.grant(s, random);
         } else {
-            let at = random.below(s.live.len() as u64) as usize;
-            s.release(at);
+            self.release(s, random);
         }
     }
 
-    /// The turns of bench/steps.rs; where the library's calls are batched, look-ups are left out, but their random numbers are drawn.
+    /// The turns of bench/steps.rs. In a batch nothing is looked up or listed, but the random numbers are drawn all the same.
     fn turns(&self, s: &mut Sides, random: &mut Random) {
         for turn in 0..TURNS {
             self.turn(s, random);
@@ -238,74 +240,87 @@ impl Load {
         }
     }
 
-    /// A sixth more than so many live items is granted, then as many released at random.
+    /// More items are granted than are to be live, then as many released at random, so that there are free items between live ones.
     fn fill(&self, s: &mut Sides, random: &mut Random, granted: usize) {
         while s.live.len() < granted {
             self.grant(s, random);
-            self.look(s);
+            look(s);
         }
         while s.live.len() > self.live {
-            let at = random.below(s.live.len() as u64) as usize;
-            s.release(at);
-            self.look(s);
-        }
-    }
-
-    fn look(&self, s: &mut Sides) {
-        if s.batch == 0 {
-            let turn = (s.calls[0] + s.calls[1]) as usize;
-            s.look_up(turn % s.live.len());
-            if turn % 200 == 0 {
-                s.list();
-            }
+            self.release(s, random);
+            look(s);
         }
     }
 }
 
+/// A look-up after each request and a list after every 200, with no random number drawn.
+fn look(s: &mut Sides) {
+    let turn = (s.calls[0] + s.calls[1]) as usize;
+    if s.batch == 0 {
+        s.look_up(turn % s.live.len());
+        if turn % 200 == 0 {
+            s.list();
+        }
+    }
+}
+
+// Arguments: the load; for `batch` the requests in one, or 0 for single calls; for `grow` how many items are live, how many were granted, and 0 to leave
+// the Rust's checks out. Other requests of the same kind by SEED.
 fn main() {
     let args: Vec<String> = std::env::args().skip(1).collect();
-    let number = |at: usize| args.get(at).map(|n| n.parse::<u64>().expect("a number"));
-    let mut random = Random(number(2).unwrap_or(0x9e3779b97f4a7c15));
+    let number = |at: usize| args[at].parse::<usize>().expect("a number");
+    let seed = std::env::var("SEED").ok().filter(|s| !s.is_empty());
+    let mut random = Random(seed.map_or(0x9e3779b97f4a7c15, |n| n.parse().expect("a seed")));
     let churn = Load { sides: (8, 120), live: 300 };
     let labels = Load { sides: (8, 40), live: 2000 };
-    let mut s = match args[0].as_str() {
-        "present" => Sides::new(16384, (1, 1), 1),
+    let load = args[0].as_str();
+    let mut s = match load {
+        "present" | "grow" => Sides::new(16384, (1, 1), 1),
         "churn" | "batch" => Sides::new(2048, (4, 8), 2),
         "uneven" => Sides::new(2048, (6, 10), 2),
-        _ => Sides::new(2048, (1, 1), 1),
+        "labels" | "half" => Sides::new(2048, (1, 1), 1),
+        other => panic!("{other}: no such load"),
     };
-    match args[0].as_str() {
-        "present" => {
-            part();
-            Load { sides: (8, 40), live: 300 }.fill(&mut s, &mut random, 350);
-        }
-        "churn" | "uneven" => {
-            part();
-            churn.turns(&mut s, &mut random);
-        }
-        "labels" => {
-            part();
-            labels.turns(&mut s, &mut random);
+    // What comes before the calls that are counted: quickly, in batches.
+    s.batch = 1000;
+    match load {
+        "batch" => while s.live.len() < churn.live { churn.grant(&mut s, &mut random) },
+        "grow" => {
+            if number(3) == 0 {
+                s.checks = None;
+            }
+            Load { sides: (8, 40), live: number(1) }.fill(&mut s, &mut random, number(2));
         }
         "half" => {
-            s.batch = 100;
             labels.turns(&mut s, &mut random);
-            s.flush();
-            (s.batch, s.calls) = (0, [0; 5]);
-            part();
             s.live.sort_by_key(|id| id.row());
-            // `release` puts the last in place of the one that goes: from the end on, none of those that are still to go is moved.
-            for at in (0..s.live.len()).rev().skip(1).step_by(2) {
-                s.release(at);
-                labels.look(&mut s);
-            }
         }
-        other => panic!("{other}: no such load"),
+        _ => {}
+    }
+    s.flush();
+    (s.batch, s.calls) = (0, [0; 5]);
+    part();
+    match load {
+        "present" => Load { sides: (8, 40), live: 300 }.fill(&mut s, &mut random, 350),
+        "churn" | "uneven" => churn.turns(&mut s, &mut random),
+        "labels" => labels.turns(&mut s, &mut random),
+        // `release` puts the last in place of the one that goes: from the end on, none of those that are still to go is moved.
+        "half" => (0..s.live.len()).rev().skip(1).step_by(2).for_each(|at| {
+            s.release(at);
+            look(&mut s);
+        }),
+        "batch" => {
+            s.batch = number(1);
+            (0..TURNS).for_each(|_| churn.turn(&mut s, &mut random));
+            assert!(s.waiting.is_empty(), "whole batches");
+            s.batch = 0;
+        }
+        _ => {}
     }
     let [allocate, release, look_up, list, refused] = s.calls;
     let (header, live) = (s.header(), s.live.len());
     println!("{allocate} {release} {look_up} {list} {refused} {live} {} {}", header.used_shelves, header.used_items);
-    // One more is granted and released: the Rust's check at the end of that release is then on the atlas that the library audits.
+    // One more is granted and released: the check at the end of that release is then on the atlas that the library audits.
     part();
     s.allocate(8, 8);
     part();

@@ -1,12 +1,26 @@
 #!/bin/sh
-# Instructions of the audit and of the public calls, audit and all, in the whole library as hosts link it, and of the Rust, plain and with its `checks`. One
-# driver (bench/whole.rs) gives all three the same requests and compares the answers. SEED=N gives other requests of the same kind. Needs rt, rustc, valgrind and
-# awk; builds into target/bench.
+# Instructions of the audit, of the public calls, audit and all, and of a batch, in the whole library as hosts link it, and of the Rust, plain and with its
+# `checks`: bench/whole.sh [calls] [batch] [growth] [LOAD...]. One driver (bench/whole.rs) gives all the same requests and stops where an answer differs. SEED=N
+# gives other requests of the same kind. A ratio over what it is held against is said, and is no failure. Needs rt, rustc, valgrind and awk; builds into target/bench.
+#
+# Loads: present (16384 x 16384, alignment 1, 350 granted, 50 of them released at random), churn and labels (those of bench/steps.sh), half (labels, then every
+# second live item released) and uneven (churn with alignments 6 x 10).
 set -eu
 here=$(cd "$(dirname "$0")" && pwd)
 top=$(cd "$here/.." && pwd)
 for tool in rt rustc valgrind callgrind_annotate awk; do
     command -v $tool >/dev/null || { echo "bench: $tool is not there" >&2; exit 2; }
+done
+loads= batch= growth=
+[ $# -gt 0 ] || set -- calls batch growth
+for what; do
+    case $what in
+        calls) loads="present churn labels half uneven" ;;
+        batch) batch="0 1 2 10 100 1000" ;;
+        growth) growth="30:35 300:350 3000:3500 30000:35000 30:30000" ;;
+        present | churn | labels | half | uneven) loads="$loads $what" ;;
+        *) echo "bench: $what is nothing to measure" >&2; exit 2 ;;
+    esac
 done
 cd "$top"
 hosts/library >&2
@@ -24,49 +38,95 @@ host --crate-type rlib --crate-name plytimber --out-dir $out hosts/rust/plytimbe
 host --extern plytimber=$out/libplytimber.rlib --extern etagere_plain=$out/libetagere_plain.rlib --extern etagere_checks=$out/libetagere_checks.rlib \
     -L target/staticlib -l static=plytimber -o $out/whole.bin bench/whole.rs
 
-# Runs the driver under callgrind, which writes a file for each part of the run but the first, then the instructions of each function with all that it calls.
-run() { # LOAD
-    told=$("$out/whole.bin" "$1" ${SEED:-})
-    at=$out/whole.$1
+# Runs the driver under callgrind, which writes a file for each part of the run. $told is what the driver says of its calls, $at names the files: in $at.2 are
+# the instructions of the calls, in $at.4 those of the last release and the audit, each by function with all that it calls.
+run() { # the driver's arguments
+    told=$("$out/whole.bin" "$@")
+    at=$out/whole.$(echo "$*" | tr ' ' -)
     rm -f "$at" "$at".*
-    valgrind --tool=callgrind --callgrind-out-file="$at" --dump-before='whole::part*' "$out/whole.bin" "$1" ${SEED:-} >/dev/null 2>&1
-    mv "$at" "$at.4"
-    for part in 2 3 4; do
-        callgrind_annotate --inclusive=yes --threshold=100 "$at.$part" | tr -d , >"$at.$part.txt"
+    valgrind --tool=callgrind --callgrind-out-file="$at" --dump-before='whole::part*' "$out/whole.bin" "$@" >/dev/null 2>&1
+    mv "$at" "$at.callgrind.4"
+    mv "$at.2" "$at.callgrind.2"
+    for part in 2 4; do
+        callgrind_annotate --inclusive=yes --threshold=100 "$at.callgrind.$part" | tr -d , >"$at.$part"
     done
 }
-# What a ratio is held against: a word for it, and the number; nothing where there is none.
-held='function held(ratio, word, most) { return most == "" ? "" : sprintf(", %s %s%s", word, most, ratio > most ? ": over" : "") }'
+# In $told: calls of allocate, release, look-up and list, requests that were refused, live items, used shelf rows, used item rows. `held` says what a ratio is
+# held against, `is` whether a line is that of a function.
+common='BEGIN { split(told, n); split("allocate release look_up list", name) }
+    function held(ratio, word, most) { return most == "" ? "" : sprintf(", %s %s%s", word, most, ratio > most ? ": over" : "") }
+    function is(function_name) { return $0 ~ ":" function_name "( |$)" }'
 
-audits=
-for load in ${*:-present churn labels half uneven}; do
-    run "$load"
-    case $load in
-        present | labels) goal=1.05 limit=1.1 ;;
-        churn) goal=1.15 limit=1.1 ;;
-        half) goal=1.2 limit= ;;
-        *) goal= limit= ;;
-    esac
-    [ "$load" = present ] && limit=
-    awk -v load="$load" -v told="$told" -v limit="$limit" "$held"'
-        BEGIN { split("allocate release look_up list", name); split(told, count) }
-        { if (!check && /etagere_checks::.*::check( |$)/) check = $1
-          for (k in name) {
-            if (!ours[k] && $0 ~ ":plytimber_" name[k] "( |$)") ours[k] = $1
-            if (!plain[k] && $0 ~ "whole::(plain::)?" name[k] "( |$)") plain[k] = $1
-            if (!checks[k] && $0 ~ "whole::checks::" name[k] "( |$)") checks[k] = $1
-        } }
-        END { one = check / (count[1] - count[5] + count[2])
-          for (k = 1; k <= 4; k++) if (count[k]) {
-            a = ours[k] / count[k]; b = plain[k] / count[k]; c = k < 3 ? checks[k] / count[k] : b + one
-            printf "%-8s %-8s %5d calls: %10.1f, the Rust with checks %9.1f%s, ratio %.2f%s; the Rust plain %8.1f\n", load, name[k], count[k], a, c, k < 3 ? "" : "*", a / c, k < 3 ? held(a / c, "limit", limit) : "", b
-        } }' "$at.2.txt"
-    audits="$audits$(awk -v load="$load" -v told="$told" -v goal="$goal" "$held"'
-        !ours && /:plytimber_audit( |$)/ { ours = $1 }
-        !check && /etagere_checks::.*::check( |$)/ { check = $1 }
-        END { split(told, count)
-            printf "%-8s audit: %6d, the Rust'"'"'s check %6d, ratio %.2f%s; %d live, %d shelf rows, %d item rows", load, ours, check, ours / check, held(ours / check, "goal", goal), count[6], count[7], count[8] }' "$at.4.txt")
-"
-done
-printf '%s' "$audits"
-echo "* The Rust checks nothing here: a check of the mean cost on this load is added to its call."
+if [ -n "$loads" ]; then
+    echo "Instructions of one call, with the audit:"
+    : >$out/audits
+    for load in $loads; do
+        run "$load"
+        case $load in
+            present) goal=1.05 limit= ;;
+            churn) goal=1.15 limit=1.1 ;;
+            labels) goal=1.05 limit=1.1 ;;
+            half) goal=1.2 limit= ;;
+            *) goal='' limit= ;;
+        esac
+        awk -v load="$load" -v told="$told" -v limit="$limit" "$common"'
+            is("etagere_checks::.*::check") { check = $1 }
+            { for (k in name) {
+                if (is("plytimber_" name[k])) ours[k] = $1
+                if (is("whole::(plain::)?" name[k])) plain[k] = $1
+                if (is("whole::checks::" name[k])) checks[k] = $1
+            } }
+            END { for (k = 1; k <= 4; k++) if (n[k]) {
+                a = ours[k] / n[k]; b = plain[k] / n[k]; c = k < 3 ? checks[k] / n[k] : b + check / (n[1] - n[5] + n[2])
+                printf "%-7s %-8s %4d calls: %8.1f; the Rust with checks %8.1f%s, ratio %.2f%s; plain %7.1f\n", load, name[k], n[k], a, c, k < 3 ? "" : " *", a / c, k < 3 ? held(a / c, "limit", limit) : "", b
+            } }' "$at.2"
+        awk -v load="$load" -v told="$told" -v goal="$goal" "$common"'
+            is("plytimber_audit") { ours = $1 }
+            is("etagere_checks::.*::check") { check = $1 }
+            END { printf "%-7s %4d live, %2d shelf rows, %4d item rows: %6d; the Rust %5d, ratio %.2f%s\n", load, n[6], n[7], n[8], ours, check, ours / check, held(ours / check, "goal", goal) }' "$at.4" >>$out/audits
+    done
+    echo "* The Rust checks nothing here: a check is added to its call, of the mean cost on this load."
+    echo
+    echo "Instructions of one audit, and of the Rust's check of the same atlas, after these calls:"
+    cat $out/audits
+fi
+if [ -n "$batch" ]; then
+    echo
+    echo "Instructions of a request, allocations and releases at even odds on churn with 300 live items and more:"
+    single= pays=
+    for size in $batch; do
+        run batch "$size"
+        case $size in
+            100) limit=1.5 ;;
+            1000) limit=1.1 ;;
+            *) limit= ;;
+        esac
+        each=$(awk -v told="$told" "$common"'is("plytimber_(batch|allocate|release)") { all += $1 } END { printf "%.1f", all / (n[1] + n[2]) }' "$at.2")
+        awk -v size="$size" -v told="$told" -v each="$each" -v limit="$limit" "$common"'
+            is("whole::plain::(allocate|release)") { plain += $1 }
+            is("whole::checks::(allocate|release)") { checks += $1 }
+            END { plain /= n[1] + n[2]; checks /= n[1] + n[2]
+                printf "%-13s %8.1f; the Rust plain %.1f, ratio %.2f%s; with checks %.1f, ratio %.2f\n", size ? "batch of " size ":" : "single calls:", each, plain, each / plain, held(each / plain, "limit", limit), checks, each / checks }' "$at.2"
+        if [ "$size" = 0 ]; then
+            single=$each
+        elif [ -z "$pays" ] && awk "BEGIN { exit !($each < $single) }"; then
+            pays=$size
+            echo "A batch pays from $pays requests on."
+        fi
+    done
+fi
+if [ -n "$growth" ]; then
+    echo
+    echo "Instructions of one audit as the atlas grows, 16384 x 16384, alignment 1:"
+    for case in $growth; do
+        live=${case%:*} granted=${case#*:}
+        # To fill an atlas with so many items on its checks takes the Rust minutes here.
+        checks=1
+        [ "$granted" -lt 30000 ] || checks=0
+        run grow "$live" "$granted" $checks
+        awk -v granted="$granted" -v told="$told" "$common"'
+            is("plytimber_audit") { ours = $1 }
+            is("etagere_checks::.*::check") { check = $1 }
+            END { printf "%5d granted, %5d live, %2d shelf rows, %5d item rows: %7d, for each row %.1f%s\n", granted, n[6], n[7], n[8], ours, ours / (n[7] + n[8]), check ? sprintf("; the Rust %d, ratio %.2f", check, ours / check) : "" }' "$at.4"
+    done
+fi
