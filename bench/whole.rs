@@ -88,7 +88,7 @@ type Answer = Result<Option<Allocation>, Error>;
 struct Sides {
     ours: AtlasIn<'static>,
     plain: plain::Side,
-    checks: Option<checks::Side>,
+    checks: checks::Side,
     live: Vec<AllocId>,
     /// Requests in one batch of the library's; 0: each by its single call.
     batch: usize,
@@ -109,7 +109,7 @@ impl Sides {
         Sides {
             ours: AtlasIn::create(header, shelves, items, size2(side, side), &options).expect("created"),
             plain: plain::Side::new(side, align, columns),
-            checks: Some(checks::Side::new(side, align, columns)),
+            checks: checks::Side::new(side, align, columns),
             live: Vec::new(),
             batch: 0,
             waiting: Vec::new(),
@@ -126,15 +126,13 @@ impl Sides {
 
     fn same_area(&self) {
         assert_eq!(self.header().occupied, self.plain.occupied(), "occupied");
-        assert!(self.checks.iter().all(|c| c.occupied() == self.plain.occupied()), "the Rust's two builds");
+        assert_eq!(self.checks.occupied(), self.plain.occupied(), "the Rust's two builds");
     }
 
     fn allocate(&mut self, w: i32, h: i32) {
         self.calls[0] += 1;
         let theirs = self.plain.allocate(w, h);
-        if let Some(checks) = &mut self.checks {
-            assert_eq!(checks.allocate(w, h), theirs, "the Rust's two builds");
-        }
+        assert_eq!(self.checks.allocate(w, h), theirs, "the Rust's two builds");
         let theirs = theirs.map(Allocation::from);
         match theirs {
             Some(a) => self.live.push(a.id),
@@ -152,9 +150,7 @@ impl Sides {
         self.calls[1] += 1;
         let id = self.live.swap_remove(at);
         self.plain.release(id.serialize());
-        if let Some(checks) = &mut self.checks {
-            checks.release(id.serialize());
-        }
+        self.checks.release(id.serialize());
         if self.batch > 0 {
             return self.queue(Request::deallocate(id), Ok(None));
         }
@@ -182,9 +178,7 @@ impl Sides {
         self.calls[2] += 1;
         let id = self.live[at];
         let theirs = self.plain.look_up(id.serialize());
-        if let Some(checks) = &self.checks {
-            assert_eq!(checks.look_up(id.serialize()), theirs, "the Rust's two builds");
-        }
+        assert_eq!(self.checks.look_up(id.serialize()), theirs, "the Rust's two builds");
         assert_eq!(self.ours.get(id), Ok(Allocation::from(theirs).rectangle), "look-up");
     }
 
@@ -264,8 +258,8 @@ fn look(s: &mut Sides) {
     }
 }
 
-// Arguments: the load; for `batch` the requests in one, or 0 for single calls; for `grow` how many items are live, how many were granted, and 0 to leave
-// the Rust's checks out. Other requests of the same kind by SEED.
+// Arguments: the load; for `batch` the requests in one, or 0 for single calls; for `grow` how many items are to be live, and how many are granted before. Other
+// requests of the same kind by SEED.
 fn main() {
     let args: Vec<String> = std::env::args().skip(1).collect();
     let number = |at: usize| args[at].parse::<usize>().expect("a number");
@@ -284,13 +278,12 @@ fn main() {
     // What comes before the calls that are counted: quickly, in batches.
     s.batch = 1000;
     match load {
-        "batch" => while s.live.len() < churn.live { churn.grant(&mut s, &mut random) },
-        "grow" => {
-            if number(3) == 0 {
-                s.checks = None;
+        "batch" => {
+            while s.live.len() < churn.live {
+                churn.grant(&mut s, &mut random)
             }
-            Load { sides: (8, 40), live: number(1) }.fill(&mut s, &mut random, number(2));
         }
+        "grow" => Load { sides: (8, 40), live: number(1) }.fill(&mut s, &mut random, number(2)),
         "half" => {
             labels.turns(&mut s, &mut random);
             s.live.sort_by_key(|id| id.row());
@@ -317,13 +310,13 @@ fn main() {
         }
         _ => {}
     }
-    let [allocate, release, look_up, list, refused] = s.calls;
-    let (header, live) = (s.header(), s.live.len());
-    println!("{allocate} {release} {look_up} {list} {refused} {live} {} {}", header.used_shelves, header.used_items);
+    let ([allocate, release, look_up, list, refused], live) = (s.calls, s.live.len());
     // One more is granted and released: the check at the end of that release is then on the atlas that the library audits.
     part();
     s.allocate(8, 8);
     part();
     s.release(live);
     assert_eq!(s.ours.audit(), Verdict::Passes, "the audit");
+    let header = s.header();
+    println!("{allocate} {release} {look_up} {list} {refused} {live} {} {}", header.used_shelves, header.used_items);
 }

@@ -1,7 +1,8 @@
 #!/bin/sh
 # Instructions of the audit, of the public calls, audit and all, and of a batch, in the whole library as hosts link it, and of the Rust, plain and with its
-# `checks`: bench/whole.sh [calls] [batch] [growth] [LOAD...]. One driver (bench/whole.rs) gives all the same requests and stops where an answer differs. SEED=N
-# gives other requests of the same kind. A ratio over what it is held against is said, and is no failure. Needs rt, rustc, valgrind and awk; builds into target/bench.
+# `checks`: bench/whole.sh [calls] [growth] [batch] [LOAD...]. One driver (bench/whole.rs) gives all the same requests and stops where an answer differs. SEED=N
+# gives other requests of the same kind. A ratio over what it is held against is said, and is no failure. Growth takes some minutes, since the Rust checks at each
+# grant. Needs rt, rustc, valgrind and awk; builds into target/bench.
 #
 # Loads: present (16384 x 16384, alignment 1, 350 granted, 50 of them released at random), churn and labels (those of bench/steps.sh), half (labels, then every
 # second live item released) and uneven (churn with alignments 6 x 10).
@@ -12,7 +13,7 @@ for tool in rt rustc valgrind callgrind_annotate awk; do
     command -v $tool >/dev/null || { echo "bench: $tool is not there" >&2; exit 2; }
 done
 loads= batch= growth=
-[ $# -gt 0 ] || set -- calls batch growth
+[ $# -gt 0 ] || set -- calls growth batch
 for what; do
     case $what in
         calls) loads="present churn labels half uneven" ;;
@@ -51,14 +52,26 @@ run() { # the driver's arguments
         callgrind_annotate --inclusive=yes --threshold=100 "$at.callgrind.$part" | tr -d , >"$at.$part"
     done
 }
-# In $told: calls of allocate, release, look-up and list, requests that were refused, live items, used shelf rows, used item rows. `held` says what a ratio is
-# held against, `is` whether a line is that of a function.
+# In $told: calls of allocate, release, look-up and list, requests that were refused, live items, used shelf rows, used item rows. `is` says whether a line is
+# that of a function, `commas` writes a number with so many digits behind the point, `held` what a ratio is held against, `found` stops where a function has no count.
 common='BEGIN { split(told, n); split("allocate release look_up list", name) }
-    function held(ratio, word, most) { return most == "" ? "" : sprintf(", %s %s%s", word, most, ratio > most ? ": over" : "") }
-    function is(function_name) { return $0 ~ ":" function_name "( |$)" }'
+    function is(function_name) { return $0 ~ ":" function_name "( |$)" }
+    function commas(number, digits,    text, point) {
+        text = sprintf("%." digits "f", number)
+        for (point = (digits ? length(text) - digits - 1 : length(text)) - 3; point > 0; point -= 3) text = substr(text, 1, point) "," substr(text, point + 1)
+        return text
+    }
+    function held(ratio, most) { return most == "" ? "" : most (ratio > most ? ": over" : "") }
+    function found(count, what) {
+        if (!count) { print "bench: no instructions of " what " in the counts" >"/dev/stderr"; exit 1 }
+        return count
+    }'
 
 if [ -n "$loads" ]; then
-    echo "Instructions of one call, with the audit:"
+    echo "A public call, audit and all"
+    echo
+    echo "| load | call | calls | instructions | the Rust with checks | ratio | limit | the Rust plain |"
+    echo "|---|---|---|---|---|---|---|---|"
     : >$out/audits
     for load in $loads; do
         run "$load"
@@ -77,22 +90,48 @@ if [ -n "$loads" ]; then
                 if (is("whole::checks::" name[k])) checks[k] = $1
             } }
             END { for (k = 1; k <= 4; k++) if (n[k]) {
-                a = ours[k] / n[k]; b = plain[k] / n[k]; c = k < 3 ? checks[k] / n[k] : b + check / (n[1] - n[5] + n[2])
-                printf "%-7s %-8s %4d calls: %8.1f; the Rust with checks %8.1f%s, ratio %.2f%s; plain %7.1f\n", load, name[k], n[k], a, c, k < 3 ? "" : " *", a / c, k < 3 ? held(a / c, "limit", limit) : "", b
+                a = found(ours[k], name[k]) / n[k]; b = found(plain[k], "the Rust, " name[k]) / n[k]
+                c = k < 3 ? found(checks[k], "the Rust with checks, " name[k]) / n[k] : b + found(check, "the check") / (n[1] - n[5] + n[2])
+                sub("_", "-", name[k])
+                printf "| %s | %s | %s | %s | %s%s | %.2f | %s | %s |\n", load, name[k], commas(n[k], 0), commas(a, 1), commas(c, 1), k < 3 ? "" : " *", a / c, k < 3 ? held(a / c, limit) : "", commas(b, 1)
             } }' "$at.2"
         awk -v load="$load" -v told="$told" -v goal="$goal" "$common"'
             is("plytimber_audit") { ours = $1 }
             is("etagere_checks::.*::check") { check = $1 }
-            END { printf "%-7s %4d live, %2d shelf rows, %4d item rows: %6d; the Rust %5d, ratio %.2f%s\n", load, n[6], n[7], n[8], ours, check, ours / check, held(ours / check, "goal", goal) }' "$at.4" >>$out/audits
+            END { found(ours, "the audit"); found(check, "the check")
+                printf "| %s | %s | %s | %s | %s | %s | %.2f | %s |\n", load, commas(n[6], 0), n[7], commas(n[8], 0), commas(ours, 0), commas(check, 0), ours / check, held(ours / check, goal) }' "$at.4" >>$out/audits
     done
+    echo
     echo "* The Rust checks nothing here: a check is added to its call, of the mean cost on this load."
     echo
-    echo "Instructions of one audit, and of the Rust's check of the same atlas, after these calls:"
+    echo "One audit of the atlas that these calls leave"
+    echo
+    echo "| load | live items | shelf rows | item rows | instructions | the Rust's check | ratio | goal |"
+    echo "|---|---|---|---|---|---|---|---|"
     cat $out/audits
+    echo
+fi
+if [ -n "$growth" ]; then
+    echo "One audit as the atlas grows"
+    echo
+    echo "| granted | live items | shelf rows | item rows | instructions | for each row | the Rust's check | ratio |"
+    echo "|---|---|---|---|---|---|---|---|"
+    for case in $growth; do
+        live=${case%:*} granted=${case#*:}
+        run grow "$live" "$granted"
+        awk -v granted="$granted" -v told="$told" "$common"'
+            is("plytimber_audit") { ours = $1 }
+            is("etagere_checks::.*::check") { check = $1 }
+            END { found(ours, "the audit"); found(check, "the check")
+                printf "| %s | %s | %s | %s | %s | %.1f | %s | %.2f |\n", commas(granted, 0), commas(n[6], 0), n[7], commas(n[8], 0), commas(ours, 0), ours / (n[7] + n[8]), commas(check, 0), ours / check }' "$at.4"
+    done
+    echo
 fi
 if [ -n "$batch" ]; then
+    echo "A request in a batch"
     echo
-    echo "Instructions of a request, allocations and releases at even odds on churn with 300 live items and more:"
+    echo "| requests in one | instructions | the Rust plain | ratio | limit | the Rust with checks | ratio |"
+    echo "|---|---|---|---|---|---|---|"
     single= pays=
     for size in $batch; do
         run batch "$size"
@@ -101,32 +140,18 @@ if [ -n "$batch" ]; then
             1000) limit=1.1 ;;
             *) limit= ;;
         esac
-        each=$(awk -v told="$told" "$common"'is("plytimber_(batch|allocate|release)") { all += $1 } END { printf "%.1f", all / (n[1] + n[2]) }' "$at.2")
+        each=$(awk -v told="$told" "$common"'is("plytimber_(batch|allocate|release)") { all += $1 } END { printf "%.1f", found(all, "the calls") / (n[1] + n[2]) }' "$at.2")
         awk -v size="$size" -v told="$told" -v each="$each" -v limit="$limit" "$common"'
             is("whole::plain::(allocate|release)") { plain += $1 }
             is("whole::checks::(allocate|release)") { checks += $1 }
-            END { plain /= n[1] + n[2]; checks /= n[1] + n[2]
-                printf "%-13s %8.1f; the Rust plain %.1f, ratio %.2f%s; with checks %.1f, ratio %.2f\n", size ? "batch of " size ":" : "single calls:", each, plain, each / plain, held(each / plain, "limit", limit), checks, each / checks }' "$at.2"
+            END { plain = found(plain, "the Rust") / (n[1] + n[2]); checks = found(checks, "the Rust with checks") / (n[1] + n[2])
+                printf "| %s | %s | %s | %.2f | %s | %s | %.2f |\n", size ? commas(size, 0) : "no batch, single calls", commas(each, 1), commas(plain, 1), each / plain, held(each / plain, limit), commas(checks, 1), each / checks }' "$at.2"
         if [ "$size" = 0 ]; then
             single=$each
         elif [ -z "$pays" ] && awk "BEGIN { exit !($each < $single) }"; then
             pays=$size
-            echo "A batch pays from $pays requests on."
         fi
     done
-fi
-if [ -n "$growth" ]; then
     echo
-    echo "Instructions of one audit as the atlas grows, 16384 x 16384, alignment 1:"
-    for case in $growth; do
-        live=${case%:*} granted=${case#*:}
-        # To fill an atlas with so many items on its checks takes the Rust minutes here.
-        checks=1
-        [ "$granted" -lt 30000 ] || checks=0
-        run grow "$live" "$granted" $checks
-        awk -v granted="$granted" -v told="$told" "$common"'
-            is("plytimber_audit") { ours = $1 }
-            is("etagere_checks::.*::check") { check = $1 }
-            END { printf "%5d granted, %5d live, %2d shelf rows, %5d item rows: %7d, for each row %.1f%s\n", granted, n[6], n[7], n[8], ours, ours / (n[7] + n[8]), check ? sprintf("; the Rust %d, ratio %.2f", check, ours / check) : "" }' "$at.4"
-    done
+    echo "A batch pays from $pays requests on."
 fi
