@@ -45,7 +45,7 @@ run() { # the driver's arguments
     told=$("$out/whole.bin" "$@")
     at=$out/whole.$(echo "$*" | tr ' ' -)
     rm -f "$at" "$at".*
-    valgrind --tool=callgrind --callgrind-out-file="$at" --dump-before='whole::part*' "$out/whole.bin" "$@" >/dev/null 2>&1
+    valgrind --tool=callgrind --callgrind-out-file="$at" --dump-before='whole::part*' "$out/whole.bin" "$@" >"$at.log" 2>&1 || { cat "$at.log" >&2; exit 1; }
     mv "$at" "$at.callgrind.4"
     mv "$at.2" "$at.callgrind.2"
     for part in 2 4; do
