@@ -1,12 +1,28 @@
 // One driver, two allocators: the same requests go to the Rust and to Plytimber's calls without the audit, and every answer is compared. Each call goes
 // through a function of its own, so that bench/steps.sh can count its instructions.
-mod atlas;
-use atlas::Header;
+mod random;
 use etagere::{point2, size2, AllocId, Allocation, AllocatorOptions, AtlasAllocator, Rectangle};
+use random::Random;
 
 const NONE: u16 = 65535;
 const SHELF_ROWS: usize = 4_000;
 const ITEM_ROWS: usize = 20_000;
+
+#[repr(C)]
+#[derive(Clone, Copy)]
+struct Header {
+    width: u16,
+    height: u16,
+    align_width: u16,
+    align_height: u16,
+    vertical: u16,
+    shelf_width: u16,
+    used_shelves: u16,
+    used_items: u16,
+    free_items: u16,
+    free_shelves: u16,
+    occupied: u32,
+}
 
 #[repr(C)]
 struct HostGrant {
@@ -168,8 +184,8 @@ fn main() {
         _ => panic!("churn or labels"),
     };
     let seed = std::env::args().nth(2).map_or(0x9e3779b97f4a7c15, |n| n.parse().expect("a seed"));
-    let mut random = atlas::Random(seed);
-    let mut side = |random: &mut atlas::Random| sides.0 + random.below((sides.1 - sides.0 + 1) as u64) as i32;
+    let mut random = Random(seed);
+    let mut side = |random: &mut Random| sides.0 + random.below((sides.1 - sides.0 + 1) as u64) as i32;
     for turn in 0..6000 {
         if both.live.len() < live || random.below(2) == 0 {
             let (w, h) = (side(&mut random), side(&mut random));
