@@ -32,11 +32,14 @@ pub struct Walked {
     pub widths: u32,
 }
 
+// The tail of a live item on the shelf in row 0: no free links, 65535 and 65535, and the flag.
+const LIVE: u64 = 281479271677951;
+
 // Whether an item is live, of the shelf in row `on` and in no free list.
 fn live_of(on: u16, i: ItemRow) -> bool
     ensures { λ r. ⌜ Decides r (LiveOf on i) ⌝ }
 {
-    item::tail_of(i) == 281479271677951 + on as u64 * 4294967296
+    item::tail_of(i) == LIVE + on as u64 * 4294967296
 }
 
 // Whether an item can stand at x, after the row `prev`.
