@@ -103,7 +103,8 @@ typedef struct { uint32_t answer, length; } plytimber_saved;
 typedef struct { uint32_t answer; plytimber_header header; } plytimber_loaded;
 /* How many requests were answered, and the header after them; the one that was given where the batch is refused. */
 typedef struct { uint32_t answer, count; plytimber_header header; } plytimber_batched;
-/* A request: the kind, then width and height, or row and generation. */
+/* A request: the kind, then width and height, or row and generation. A side that doesn't fit in 16 bits would be cut: put 0 in its place, which is
+ * answered with 4 as the side would be. */
 enum { PLYTIMBER_ALLOCATE = 1, PLYTIMBER_RELEASE = 2, PLYTIMBER_LOOK_UP = 3 };
 typedef struct { uint16_t kind, first, second; } plytimber_request;
 /* What is told of a request: the answer that its single call would give, and the item where allocate or look-up is done; zeros else. */
