@@ -10,7 +10,8 @@
  *       in one point each: a load that answers 3 leaves the rows that it copied, a refused batch gives back the header that it was given,
  *       and the audit tells the rule beside its 3.
  *     - All calls but create, clear and load first audit header and tables, and answer 3 where they don't pass. Clear asks less: a
- *       header within the limits, tables that have its used rows, and a row for each column in each. Load audits what it has copied.
+ *       header within the limits, tables that have its used rows, and a row for each column in each. Load audits what it has copied. An
+ *       audit takes time in proportion to the used rows (docs/PERFORMANCE.md); a batch makes one for many calls.
  *     - Where header and tables pass before a call, they pass after it. Create, load and batch give a header back: where they are
  *       done, the tables pass with that one, and with an older copy they may not. Where they are refused, the tables pass with the
  *       header that you have as before, but after a load that answers 3 they may not.
