@@ -6,11 +6,15 @@
  *
  * What is promised, and proved for all inputs:
  *     - Every call ends and gives an answer of the list below, whatever numbers, ids, header and tables it is given.
- *     - A refusal has zeros beside its number, and changes nothing: not the header, no table, no list, no output. Two calls differ
- *       in one point each: a load that answers 3 leaves the rows that it copied, and a refused batch gives back the header that it was given.
+ *     - A refusal has zeros beside its number, and changes nothing: not the header, no table, no list, no output. Three calls differ
+ *       in one point each: a load that answers 3 leaves the rows that it copied, a refused batch gives back the header that it was given,
+ *       and the audit tells the rule beside its 3.
  *     - All calls but create, clear and load first audit header and tables, and answer 3 where they don't pass. Clear asks less: a
- *       header within the limits, and a row for each column in each table. Load audits what it has copied.
- *     - Where header and tables pass before a call, they pass after it; after a load with the header that it gives back, unless it answers 3.
+ *       header within the limits, tables that have its used rows, and a row for each column in each. Load audits what it has copied. An
+ *       audit takes time in proportion to the used rows (docs/PERFORMANCE.md); a batch makes one for many calls.
+ *     - Where header and tables pass before a call, they pass after it. Create, load and batch give a header back: where they are
+ *       done, the tables pass with that one, and with an older copy they may not. Where they are refused, the tables pass with the
+ *       header that you have as before, but after a load that answers 3 they may not.
  *     - Nothing is read or written outside of what is lent. Numbers past the used rows are not read, and are written only when
  *       a row is taken into use.
  *
@@ -82,9 +86,9 @@ typedef struct {
     uint32_t occupied;                  /* the area of all live items */
 } plytimber_header;
 
-/* ---- what calls tell: the answer first; the rest is zero where it is a refusal */
+/* ---- what calls tell: the answer first; the rest is zero where it is a refusal, but for a verdict's rule and a batch's header */
 
-/* A live item: its id is row and generation together; its rectangle runs from x0, y0 up to but not including x1, y1. */
+/* A live item: its id is row and generation together; its rectangle runs from x0, y0 up to but not including x1, y1. All six fit in 16 bits. */
 typedef struct { uint32_t answer, row, generation, x0, y0, x1, y1; } plytimber_grant;
 typedef struct { uint32_t answer, columns; plytimber_header header; } plytimber_created;
 typedef struct { uint32_t answer, count; } plytimber_count;
@@ -100,7 +104,8 @@ typedef struct { uint32_t answer, length; } plytimber_saved;
 typedef struct { uint32_t answer; plytimber_header header; } plytimber_loaded;
 /* How many requests were answered, and the header after them; the one that was given where the batch is refused. */
 typedef struct { uint32_t answer, count; plytimber_header header; } plytimber_batched;
-/* A request: the kind, then width and height, or row and generation. */
+/* A request: the kind, then width and height, or row and generation. A side that doesn't fit in 16 bits would be cut: put 0 in its place, which is
+ * answered with 4 as the side would be. */
 enum { PLYTIMBER_ALLOCATE = 1, PLYTIMBER_RELEASE = 2, PLYTIMBER_LOOK_UP = 3 };
 typedef struct { uint16_t kind, first, second; } plytimber_request;
 /* What is told of a request: the answer that its single call would give, and the item where allocate or look-up is done; zeros else. */
@@ -121,7 +126,8 @@ plytimber_grant plytimber_allocate(plytimber_header *header, uint16_t *shelves, 
 uint32_t plytimber_release(plytimber_header *header, uint16_t *shelves, size_t shelf_numbers, uint16_t *items, size_t item_numbers, uint16_t row,
                            uint16_t generation);
 
-/* 0 3. A fresh atlas of the same size and options: every id is dead. Works on damaged tables, too, as long as the header is within the limits. */
+/* 0 3. A fresh atlas of the same size and options: every id is dead. Works on damaged tables, too, as long as the header is within the limits and
+ * the tables have its used rows and a row for each column. */
 uint32_t plytimber_clear(plytimber_header *header, uint16_t *shelves, size_t shelf_numbers, uint16_t *items, size_t item_numbers);
 
 /* 0 3 8. The rectangle of a live item. */

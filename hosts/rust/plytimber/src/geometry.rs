@@ -29,6 +29,12 @@ pub const fn size2(width: i32, height: i32) -> Size {
     Size { width, height }
 }
 
+impl Point {
+    pub const fn new(x: i32, y: i32) -> Self {
+        point2(x, y)
+    }
+}
+
 impl Size {
     pub const fn new(width: i32, height: i32) -> Self {
         size2(width, height)
@@ -44,6 +50,14 @@ impl Size {
 }
 
 impl Rectangle {
+    pub const fn new(min: Point, max: Point) -> Self {
+        Rectangle { min, max }
+    }
+
+    pub const fn is_empty(&self) -> bool {
+        self.max.x <= self.min.x || self.max.y <= self.min.y
+    }
+
     pub const fn width(&self) -> i32 {
         self.max.x - self.min.x
     }

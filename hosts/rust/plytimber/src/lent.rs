@@ -66,7 +66,7 @@ impl<'a> AtlasIn<'a> {
         sys::release(self.header, self.shelves, self.items, id.row(), id.generation())
     }
 
-    /// Gives everything back. Asks only for a header within the limits and a row for each column in each table.
+    /// Gives everything back. Asks only for a header within the limits, tables that have its used rows, and a row for each column in each.
     pub fn clear(&mut self) -> Result<(), Error> {
         sys::clear(self.header, self.shelves, self.items)
     }

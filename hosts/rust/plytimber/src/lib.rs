@@ -7,7 +7,7 @@
 //! - Tables are fixed. By default they have all the rows that there can be; [`AtlasAllocator::with_rows`] takes less memory, and answers
 //!   [`Error::TooFewRows`] when they are full.
 //! - [`AtlasAllocator::save`] and [`AtlasAllocator::load`] stand for serde's feature: an image whose every block is checked, and which is audited before it is an atlas.
-//! - [`AtlasAllocator::batch`] makes many calls on one audit.
+//! - Each call but `clear` audits the tables first, which takes time in proportion to the rows in use; [`AtlasAllocator::batch`] makes many calls on one audit.
 //! - [`AtlasIn`] is an atlas over a header and tables that you lend, with no heap: static memory, or memory that outlives a restart.
 //!
 //! ## Example

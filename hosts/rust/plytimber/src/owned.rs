@@ -27,7 +27,7 @@ impl AtlasAllocator {
     /// Create an atlas allocator with default options.
     ///
     /// # Panics
-    /// Where the size is refused, as etagere's does: see [`AtlasAllocator::try_new`].
+    /// Where the size is refused, as etagere's does; a height from 65528 to 65535 only here. See [`AtlasAllocator::try_new`].
     pub fn new(size: Size) -> Self {
         Self::with_options(size, &DEFAULT_OPTIONS)
     }
@@ -35,7 +35,8 @@ impl AtlasAllocator {
     /// Create an atlas allocator with provided options.
     ///
     /// # Panics
-    /// Where size or options are refused, as etagere's does: see [`AtlasAllocator::try_with_options`].
+    /// Where size or options are refused, as etagere's does; a depth from 65528 to 65535, columns below 0 and alignments over 65535 only here. See
+    /// [`AtlasAllocator::try_with_options`].
     pub fn with_options(size: Size, options: &AllocatorOptions) -> Self {
         Self::try_with_options(size, options).unwrap_or_else(|e| panic!("an atlas of {size:?} with {options:?} is refused: {e}"))
     }

@@ -2,7 +2,7 @@
 use plytimber::*;
 
 fn rectangle(x0: i32, y0: i32, x1: i32, y1: i32) -> Rectangle {
-    Rectangle { min: point2(x0, y0), max: point2(x1, y1) }
+    Rectangle::new(Point::new(x0, y0), point2(x1, y1))
 }
 
 fn options(align_w: i32, align_h: i32, vertical_shelves: bool, num_columns: i32) -> AllocatorOptions {
@@ -48,6 +48,8 @@ fn vertical_shelves_keep_the_size_given() {
     assert_eq!(a.rectangle, rectangle(0, 0, 48, 100));
     assert_eq!((a.rectangle.width(), a.rectangle.height(), a.rectangle.size(), a.rectangle.area()), (48, 100, size2(48, 100), 4800));
     assert_eq!(atlas.parts().0.shelf_width, 350);
+    assert!(!a.rectangle.is_empty() && rectangle(1, 1, 1, 2).is_empty() && rectangle(1, 1, 2, 1).is_empty());
+    assert!(!size2(1, 1).is_empty() && Size::new(0, 1).is_empty() && Size::new(1, -1).is_empty());
 }
 
 #[test]
