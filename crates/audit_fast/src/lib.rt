@@ -3,7 +3,9 @@
 ghost use mathlib.Core.Path.{_≡_};
 ghost use lib.Dec.{eqb};
 ghost use Prim.Native.Nat.{_≤_};
+ghost use Rattle.numbers.specs.Prelude.{Decides};
 ghost use Rattle.rows.specs.Prelude.{itemCapacity};
+ghost use Rattle.audit_shelves.specs.Placed.{FlagRight};
 ghost use Rattle.rules.specs.Prelude.{Rule1, Passes, flag};
 ghost use Rattle.audit_fast.specs.Found.{ShelfFound, FoundSo, FreedFound, SaysYes};
 use fast_items::Walked;
@@ -38,14 +40,18 @@ const WRONG: Found = Found {
     widths: 0,
 };
 
-// The flag of a shelf with free items of this width together: no two free items adjoin, so that it's one free item exactly when they are as wide as it is.
-fn flag_due(h: Header, gap: u32) -> u16
-    ensures { λ r. ⌜ r ≡ flag (eqb gap (h .limits .«shelf_width»)) ⌝ }
+// Whether a shelf with free items of this width together has its flag, and no empty shelf follows an empty one. No two free items adjoin, so that the shelf
+// is one free item exactly when they are as wide as it is.
+fn flag_right(h: Header, s: ShelfRow, gap: u32, under_empty: bool) -> bool
+    ensures { λ r. ⌜ Decides r (FlagRight s (flag (eqb gap (h .limits .«shelf_width»))) «under_empty») ⌝ }
 {
-    if gap == h.limits.shelf_width as u32 {
-        return 1;
+    if gap != h.limits.shelf_width as u32 {
+        return s.is_empty == 0;
     }
-    0
+    if under_empty {
+        return false;
+    }
+    s.is_empty == 1
 }
 
 // One shelf: its items, its free list, and its flag.
@@ -57,10 +63,10 @@ fn one_shelf(h: Header, items: &[u16], on: u16, s: ShelfRow, under_empty: bool, 
     if !w.right {
         return w;
     }
-    if !fast_lists::free_list(h, items, on, s.first_unallocated, w.free) {
+    if !fast_lists::free_list(h, items, on, s.first_unallocated.0 as usize, w.free) {
         return NOTHING;
     }
-    if !audit_shelves::flag_right(s, flag_due(h, w.gap), under_empty) {
+    if !flag_right(h, s, w.gap, under_empty) {
         return NOTHING;
     }
     w
@@ -133,7 +139,8 @@ fn freed_right(h: Header, shelves: &[u16], items: &[u16], f: Found) -> bool
     if f.shelves as u64 + s.count as u64 != h.used_shelves as u64 {
         return false;
     }
-    fast_lists::freed_items(h, items, h.used_items - f.items as u16)
+    let rest = h.used_items - f.items as u16;
+    fast_lists::freed_items(h, items, h.free_items.0 as usize, rest)
 }
 
 // Whether one walk finds all the rules kept. It tests widths against an alignment that is a power of two; for another it says no at once.

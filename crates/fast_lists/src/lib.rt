@@ -23,14 +23,14 @@ pub fn free_of(on: u16, i: ItemRow) -> bool
 }
 
 // The free list of the shelf in row `on`, from row `first` on: whether it is right and has so many rows. No width is asked, since a freed row can't stand
-// in a list that is linked both ways. `cur` is a usize so that the compiler keeps it in a whole register, with nothing to widen at each row (measured).
-pub fn free_list(h: Header, items: &[u16], on: u16, first: ItemIndex, free: u32) -> bool
+// in a list that is linked both ways. `first` and `cur` are usizes so that the compiler keeps a whole register, with nothing to widen at each row (measured).
+pub fn free_list(h: Header, items: &[u16], on: u16, first: usize, free: u32) -> bool
     requires { ⌜ (h .«used_items» ≤ itemCapacity (now items)) × (free ≤ h .«used_items») ⌝ }
-    ensures { λ r. ⌜ Decides r (FreeListAt h (now (items .entry)) on (first .0)
-        × (length (rowsFrom (freeNext (now (items .entry))) (h .«used_items») (first .0)) ≡ free)) ⌝ }
+    ensures { λ r. ⌜ Decides r (FreeListAt h (now (items .entry)) on first
+        × (length (rowsFrom (freeNext (now (items .entry))) (h .«used_items») first) ≡ free)) ⌝ }
 {
     let mut prev: u16 = NO_ROW;
-    let mut cur: usize = first.0 as usize;
+    let mut cur: usize = first;
     let mut left = free;
     while 0 < left {
         if cur >= h.used_items as usize {
@@ -50,12 +50,12 @@ pub fn free_list(h: Header, items: &[u16], on: u16, first: ItemIndex, free: u32)
     cur == NO_ROW as usize
 }
 
-// The freed item rows: whether they are right, and so many. `row` is a usize as `cur` is above.
-pub fn freed_items(h: Header, items: &[u16], rest: u16) -> bool
-    requires { ⌜ (h .«used_items» ≤ itemCapacity (now items)) × (rest ≤ h .«used_items») ⌝ }
+// The freed item rows, from row `head` on: whether they are right, and so many. `head` and `row` are usizes as above.
+pub fn freed_items(h: Header, items: &[u16], head: usize, rest: u16) -> bool
+    requires { ⌜ (h .«used_items» ≤ itemCapacity (now items)) × (rest ≤ h .«used_items») × (head ≡ h .«free_items» .0) ⌝ }
     ensures { λ r. ⌜ Decides r (FreedItems h (now (items .entry)) × (length (freedItemsMet h (now (items .entry))) ≡ rest)) ⌝ }
 {
-    let mut row: usize = h.free_items.0 as usize;
+    let mut row: usize = head;
     let mut left = rest;
     while 0 < left {
         if row >= h.used_items as usize {

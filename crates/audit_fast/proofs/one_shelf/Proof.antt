@@ -1,5 +1,5 @@
 -- `one_shelf`: what its three parts say, together. Assumes nothing.
-use Rattle.numbers.specs.Library.{ℕ, List, Bool, false, sym, _∙_, not-false}
+use Rattle.numbers.specs.Library.{ℕ, List, Bool, false, sym, not-false, needs}
 use Rattle.numbers.specs.Prelude.{never, allowed}
 use Rattle.rows.specs.declared.{header.Header.Header, shelf.ShelfRow.ShelfRow}
 use Rattle.audit_fast.specs.Found.{ShelfFound}
@@ -19,18 +19,18 @@ one-shelf-spec =
     (λ c.
     let walked = c .before .before .items-right in
     record { walks = walked .ensures; list = λ e. never (rw e at (c .if1 .taken)); flagged = λ e. never (rw e at (c .if1 .taken)) })
-    (λ c κs. (c .before .before .before .before .pre .0, c .before .before .items-right .ensures .free-most (not-false _ (c .if1 .left))))
+    (λ c. search needs)
+    (λ c κs. (c .before .before .before .before .before .pre .0, c .before .before .before .items-right .ensures .free-most (not-false _ (c .before .if1 .left))))
     (λ c. nothing)
-    (λ c κs. tt)
     (λ c κs. tt)
     (λ c. nothing)
     (λ c.
     let walked = c .before .before .before .before .before .before .before .items-right in
     let right = not-false _ (c .before .before .before .before .before .if1 .left) in
-    let list = allowed (c .before .before .before .before .free-list .ensures) (c .before .before .before .if2 .left) in
-    let due = c .before .before .flag-due .ensures ∙ sym (flag-is-due _ _ _ _ _ _ (c .before .before .before .before .before .before .before .before .before .pre .1) (c .before .before .before .before .before .before .before .before .before .pre .0) (walked .ensures) right) in
+    let list = allowed (c .before .before .before .free-list .ensures) (c .before .before .if2 .left) in
+    let due = flag-is-due _ _ _ _ _ _ (c .before .before .before .before .before .before .before .before .before .pre .1) (c .before .before .before .before .before .before .before .before .before .pre .0) (walked .ensures) right in
     record {
       walks = walked .ensures;
       list = λ e. record { right = list .0; length-is = list .1 };
-      flagged = λ e. rw due at (allowed (c .before .flag-right .ensures) (c .if3 .left));
+      flagged = λ e. rw (sym due) at (allowed (c .before .flag-right .ensures) (c .if3 .left));
     }))

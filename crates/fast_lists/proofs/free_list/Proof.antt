@@ -6,10 +6,10 @@ use Rattle.fast_lists.proofs.free_list.Statement.{statement}
 use Rattle.fast_lists.proofs.free_list.Tie as tie
 
 abbrev Inv-loop : tie.InvT-loop
-Inv-loop h items on free prev₀ cur₀ left₀ prev cur left = DueFree h items on cur₀ free cur left prev
+Inv-loop h items on first free prev₀ cur₀ left₀ prev cur left = DueFree h items on first free cur left prev
 
 abbrev μ-loop : tie.MeasureT-loop
-μ-loop h items on free prev₀ cur₀ left₀ prev cur left = left
+μ-loop h items on first free prev₀ cur₀ left₀ prev cur left = left
 
 unused-row : tie.Need-returns Inv-loop μ-loop
 unused-row c = due-outside (c .before .before .before .loop .inv) (omega arith) (omega arith)
@@ -38,7 +38,6 @@ free-list-spec =
     (tie.spec
     Inv-loop
     μ-loop
-    (λ c. omega arith)
     (λ c. free-due _ _ _ _ _ (omega arith) (omega arith))
     (λ c. omega arith)
     unused-row

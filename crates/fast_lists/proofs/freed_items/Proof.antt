@@ -6,10 +6,10 @@ use Rattle.fast_lists.proofs.freed_items.Statement.{statement}
 use Rattle.fast_lists.proofs.freed_items.Tie as tie
 
 abbrev Inv-loop : tie.InvT-loop
-Inv-loop h items rest row₀ left₀ row left = DueFreed h items rest row left
+Inv-loop h items head rest row₀ left₀ row left = DueFreed h items rest row left
 
 abbrev μ-loop : tie.MeasureT-loop
-μ-loop h items rest row₀ left₀ row left = left
+μ-loop h items head rest row₀ left₀ row left = left
 
 unused-row : tie.Need-returns Inv-loop μ-loop
 unused-row c = due-outside (c .before .before .before .loop .inv) (omega arith) (omega arith)
@@ -31,8 +31,7 @@ freed-items-spec =
     (tie.spec
     Inv-loop
     μ-loop
-    (λ c. omega arith)
-    (λ c. freed-due _ _ _ (omega arith) (omega arith))
+    (λ c. rw (c .before .pre .2) (freed-due _ _ _ (omega arith) (omega arith)))
     (λ c. omega arith)
     unused-row
     (λ c. omega arith)
