@@ -3,12 +3,15 @@ ghost use mathlib.Core.Path.{_≡_};
 ghost use Prim.Native.Nat.{_≤_};
 ghost use Rattle.rows.specs.Prelude.{rows};
 ghost use Rattle.rules.specs.Prelude.{Passes};
+ghost use Rattle.promises.specs.Prelude.{Releases};
 ghost use Rattle.batch_rules.specs.Asked.{askings, tolds};
 ghost use Rattle.batch_rules.specs.Batch.{ServesFirst, Batches};
 use batch_parts::lists;
 use batch_parts::serve;
 use batch_rules::values::Batched;
 use numbers::refusal;
+use promises::answers::Replied;
+use promises::answers::Reply;
 use rows::header::Header;
 
 // The first n requests, in their order: each on what the one before it left.
@@ -67,6 +70,38 @@ pub fn batch(
     Batched {
         answer: 0,
         count: n,
+        header,
+    }
+}
+
+// The public call release, as a list of one request. Then the loop above is the only code of the library that makes a release, and the compiler puts a release's
+// steps into it, where the header need not go through memory. Whether the item is live is asked here too, so that the answer need not be read from a list.
+pub fn release(
+    h: Header,
+    shelves: &mut [u16],
+    items: &mut [u16],
+    row: u16,
+    generation: u16,
+) -> Replied
+    ensures { λ r. ⌜ Releases h (now (shelves .entry)) (now (items .entry)) row generation r (now (shelves .exit)) (now (items .exit)) ⌝ }
+{
+    if !audit::passes(h, shelves, items) {
+        return Replied {
+            answer: Reply::Refused(refusal::AUDIT),
+            header: h,
+        };
+    }
+    if !live_rows::is_live(h, items, row, generation) {
+        return Replied {
+            answer: Reply::Refused(refusal::NO_SUCH_ITEM),
+            header: h,
+        };
+    }
+    let requests: [u16; 3] = [2, row, generation];
+    let mut out: [u16; 7] = [0; 7];
+    let header = serve_all(h, shelves, items, &requests, &mut out, 1);
+    Replied {
+        answer: Reply::Done,
         header,
     }
 }

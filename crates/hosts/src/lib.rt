@@ -45,7 +45,7 @@ pub fn release(
 ) -> HostReplied
     ensures { λ r. ⌜ ReleasesHere h (now (shelves .entry)) (now (items .entry)) row generation (r .answer) (r .header) (now (shelves .exit)) (now (items .exit)) ⌝ }
 {
-    let said = release::release(values::header_of(h), shelves, items, row, generation);
+    let said = batch::release(values::header_of(h), shelves, items, row, generation);
     let header = values::host_header(said.header);
     let answer = said.answer;
     HostReplied {
