@@ -5,14 +5,14 @@ use Rattle.rows.specs.Prelude.{get, shelves}
 use Rattle.rows.specs.declared.{header.Header.Header, shelf.ShelfRow.ShelfRow}
 use Rattle.chains.specs.Prelude.{Each}
 use Rattle.chains.proofs.Prelude.{Eaching, each-begins, each-onward, each-ended}
-use Rattle.rules.specs.Prelude.{shelfNext, shelvesMet, itemsMet, freeMet, Rule2, Rule3, sumOver}
-use Rattle.audit_counts.specs.Counts.{FreeListAt, allFreeMet, AllCounts, rowsOf}
+use Rattle.rules.specs.Prelude.{shelfNext, shelvesMet, itemsMet, freeMet, Rule2, sumOver}
+use Rattle.audit_counts.specs.Counts.{FreeListAt, allFreeMet, rowsOf}
 use Rattle.audit_counts.specs.Fast.{loose, oddOf, Even}
 use Rattle.audit_counts.proofs.Sums.{Summing, sums, summed-as, sum-ended, length-gather}
 use Rattle.audit_counts.proofs.TotalTurns.{AtTotals, totals-begin, past-items, totals-ended}
 use Rattle.fast_items.specs.declared.Walked.{Walked}
 use Rattle.audit_fast.specs.declared.Found.{Found}
-use Rattle.audit_fast.specs.Found.{ListFound, ShelfFound, ShelvesFound}
+use Rattle.audit_fast.specs.Found.{ShelfFound, ShelvesFound}
 
 -- the free list of the shelf in row `on`
 abbrev ListOf : Header → List ℕ → List ℕ → ℕ → Type 0

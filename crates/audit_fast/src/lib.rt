@@ -1,6 +1,5 @@
 // A fast yes: one walk over the shelves, their items and their free lists, which stops at the first thing that is not right. Where it says yes the exact
 // audit would too; where it says no, that has to be asked.
-ghost use mathlib.Core.Path.{_≡_};
 ghost use lib.Dec.{eqb};
 ghost use Prim.Native.Nat.{_≤_};
 ghost use Rattle.numbers.specs.Prelude.{Decides};

@@ -2,7 +2,7 @@
 ghost use mathlib.Core.Path.{_≡_};
 ghost use Prim.Native.Nat.{_≤_};
 ghost use Rattle.numbers.specs.Prelude.{Decides};
-ghost use Rattle.rows.specs.Prelude.{itemStart, itemCapacity};
+ghost use Rattle.rows.specs.Prelude.{itemCapacity};
 ghost use Rattle.audit_counts.specs.Fast.{LiveOf, Fits};
 ghost use Rattle.fast_items.specs.Walks.{Kept, passed, firstOf, EndsSo, LivesPast, Walks};
 use numbers::index::NO_ROW;
