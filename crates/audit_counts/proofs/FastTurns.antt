@@ -53,14 +53,17 @@ even-past {h} {I} {s} {all} {cur} {count} {widths} w ne i e = record {
 -- ---- the loop
 
 -- The walk where `m` says, with the locals that only free items change: `edge` is 1 more than the place where the last one ended, `gap` their width.
-pub record OnShelf (h : Header) (I : List ℕ) (on : ℕ) (s : ShelfRow) (all edge free gap : ℕ) (m : Mark) : Type 0 where
-  pub turn : InShelf (loose h) I on s (m .cur) (m .prev) (m .x) edge free (m .count) gap 0
-  pub even : EvenSoFar h I s all (m .cur) (m .count) (m .widths)
+-- It counts on from `met`, so that `here` of its items are those of this shelf.
+pub record OnShelf (h : Header) (I : List ℕ) (on : ℕ) (s : ShelfRow) (met all edge free gap : ℕ) (m : Mark) : Type 0 where
+  pub here : ℕ
+  pub count-is : m .count ≡ met + here
+  pub turn : InShelf (loose h) I on s (m .cur) (m .prev) (m .x) edge free here gap 0
+  pub even : EvenSoFar h I s all (m .cur) here (m .widths)
 
-pub on-begins : (h : Header) (I : List ℕ) (on : ℕ) (s : ShelfRow) (all : ℕ) → h .«used_items» ≤ noRow → s .x ≤ 65535
-    → OnShelf h I on s all 0 0 0 (record { cur = s .«first_item» .0; prev = noRow; x = s .x; count = 0; widths = all })
+pub on-begins : (h : Header) (I : List ℕ) (on : ℕ) (s : ShelfRow) (met all : ℕ) → h .«used_items» ≤ noRow → s .x ≤ 65535
+    → OnShelf h I on s met all 0 0 0 (record { cur = s .«first_item» .0; prev = noRow; x = s .x; count = met; widths = all })
 unfolding loose
-on-begins h I on s all b m = record { turn = shelf-begins (loose h) I on s b m; even = even-begins h I s all }
+on-begins h I on s met all b m = record { here = 0; count-is = omega arith; turn = shelf-begins (loose h) I on s b m; even = even-begins h I s all }
 
 -- an item that names its shelf and has a flag stands right, if no free item ends before it
 stands : (h : Header) {on prev x : ℕ} {i : ItemRow} → i .shelf .0 ≡ on → i .allocated ≤ 1 → Fits prev x i → Placed (loose h) on prev x i
@@ -74,46 +77,57 @@ stands h n f o = record {
   apart = refl;
 }
 
-module _ {h : Header} {I : List ℕ} {on : ℕ} {s : ShelfRow} {all edge free gap : ℕ} {m : Mark} (so-far : OnShelf h I on s all edge free gap m)
+module _ {h : Header} {I : List ℕ} {on : ℕ} {s : ShelfRow} {met all edge free gap : ℕ} {m : Mark} (so-far : OnShelf h I on s met all edge free gap m)
     (in-use : m .cur < h .«used_items») (i : ItemRow) (row-is : i ≡ get items I (m .cur)) (fit : Fits (m .prev) (m .x) i) (small : Small i) where
   row-there : m .cur ≢ noRow
   unfolding loose
   row-there q = omega (arith, in-use, q, so-far .turn .used-most)
 
-  pub on-live : LiveOf on i → OnShelf h I on s all edge free gap (over i m)
+  pub on-live : LiveOf on i → OnShelf h I on s met all edge free gap (over i m)
   unfolding loose
   on-live l = record {
+    here = so-far .here + 1;
+    count-is = omega (arith, so-far .count-is);
     turn = past-live (so-far .turn) in-use i row-is (stands h (l .named) (omega (arith, l .is-live)) fit) small 0 (l .is-live) (omega (arith, l .prev-none, l .next-none));
     even = even-past (so-far .even) row-there i row-is;
   }
 
-  pub on-free : FreeOf on i → edge ≢ m .x + 1 → OnShelf h I on s all (m .x + i .width + 1) (free + 1) (gap + i .width) (over i m)
+  pub on-free : FreeOf on i → edge ≢ m .x + 1 → OnShelf h I on s met all (m .x + i .width + 1) (free + 1) (gap + i .width) (over i m)
   unfolding loose
   on-free f apart = record {
+    here = so-far .here + 1;
+    count-is = omega (arith, so-far .count-is);
     turn = past-free (so-far .turn) in-use i row-is (stands h (f .named) (omega (arith, f .is-free)) fit) small (λ q. omega (arith, f .is-free)) apart;
     even = even-past (so-far .even) row-there i row-is;
   }
 
 -- past a run of live items, after which no free item ends either
-pub on-lives : {h : Header} {I : List ℕ} {on : ℕ} {s : ShelfRow} {all edge free gap : ℕ} {m n : Mark} → OnShelf h I on s all edge free gap m → edge ≢ m .x + 1
-    → Lives I (h .«used_items») on m n → OnShelf h I on s all edge free gap n × (edge ≢ n .x + 1)
+pub on-lives : {h : Header} {I : List ℕ} {on : ℕ} {s : ShelfRow} {met all edge free gap : ℕ} {m n : Mark} → OnShelf h I on s met all edge free gap m → edge ≢ m .x + 1
+    → Lives I (h .«used_items») on m n → OnShelf h I on s met all edge free gap n × (edge ≢ n .x + 1)
 on-lives so-far apart none = (so-far, apart)
 on-lives so-far apart (past run u live fit small) =
     let before = on-lives so-far apart run in
     (on-live (before .0) u _ refl fit small live, λ q. omega (arith, before .0 .turn .edge-most, fit .some-width))
 
 -- at the end
-module _ {h : Header} {I : List ℕ} {on : ℕ} {s : ShelfRow} {all edge free gap : ℕ} {m : Mark} (so-far : OnShelf h I on s all edge free gap m)
+module _ {h : Header} {I : List ℕ} {on : ℕ} {s : ShelfRow} {met all edge free gap : ℕ} {m : Mark} (so-far : OnShelf h I on s met all edge free gap m)
     (stop : m .cur ≡ noRow) (few : m .count ≤ h .«used_items») (wide : m .x ≡ s .x + h .limits .«shelf_width») where
-  pub on-tallied : ShelfTallied (loose h) I on s (record { right = true; count = m .count; free = free; live = h .limits .«shelf_width» - gap; stray = 0 })
+  few-here : so-far .here ≤ h .«used_items»
+  few-here = omega (arith, so-far .count-is)
+
+  pub on-more : met ≤ m .count
+  on-more = omega (arith, so-far .count-is)
+
+  pub on-tallied : ShelfTallied (loose h) I on s (record { right = true; count = m .count - met; free = free; live = h .limits .«shelf_width» - gap; stray = 0 })
   unfolding loose
   on-tallied =
       let live : m .x - s .x - gap ≡ h .limits .«shelf_width» - gap = omega arith in
-      rw (eq-eqb _ _ wide, live) at (shelf-ended (so-far .turn) stop few)
+      let count : so-far .here ≡ m .count - met = omega (arith, so-far .count-is) in
+      rw (eq-eqb _ _ wide, live, count) at (shelf-ended (so-far .turn) stop few-here)
 
   pub on-even : Even h I s all (m .widths)
   unfolding Even
-  on-even k e = (so-far .even .before k e, sym (sum-ended (so-far .even .so-far k e few) stop))
+  on-even k e = (so-far .even .before k e, sym (sum-ended (so-far .even .so-far k e few-here) stop))
 
   pub on-gap : gap ≤ h .limits .«shelf_width»
   on-gap = omega (arith, so-far .turn .gap-most)

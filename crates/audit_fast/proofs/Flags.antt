@@ -11,10 +11,10 @@ use Rattle.audit_shelves.specs.Placed.{FlagRight}
 use Rattle.fast_items.specs.declared.Walked.{Walked}
 use Rattle.fast_items.specs.Walks.{Walks}
 
-pub flag-is-due : (h : Header) (I : List ℕ) (on : ℕ) (s : ShelfRow) (all : ℕ) (w : Walked) → 1 ≤ h .limits .«shelf_width» → h .«used_items» ≤ itemCapacity I → Walks h I on s all w
+pub flag-is-due : (h : Header) (I : List ℕ) (on : ℕ) (s : ShelfRow) (met all : ℕ) (w : Walked) → 1 ≤ h .limits .«shelf_width» → h .«used_items» ≤ itemCapacity I → Walks h I on s met all w
     → w .right ≡ true → flag (oneFree h I (s .«first_item» .0)) ≡ flag (eqb (w .gap) (h .limits .«shelf_width»))
 unfolding loose oneFree rowsOf
-flag-is-due h I on s all w wide few found right =
+flag-is-due h I on s met all w wide few found right =
     let tallied = found .tallied right in
     let live = tallied .counts refl .live in
     flag-by-gap (loose h) I on s wide (omega (arith, few, rows-few items I)) (tallied .exact .sound refl) (w .gap) (omega (arith, live, found .gap-most right))

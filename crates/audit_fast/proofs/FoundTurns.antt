@@ -24,6 +24,7 @@ oddOn h S I k on = sumOver (oddOf k I) (itemsMet h S I on)
 
 -- The walk in row `cur`: what was counted with what is still to be met makes the totals.
 pub record AtFound (h : Header) (S I : List ℕ) (cur fuel count area widths : ℕ) : Type 0 where
+  pub few : count ≤ h .«used_items»
   pub free : ℕ
   pub totals : AtTotals (loose h) S I cur fuel (record { right = true; shelves = h .«used_shelves» - fuel; items = count; free = free; stray = 0; area = area })
   pub lists : Eaching (ListOf h S I) (shelfNext S) (Each (ListOf h S I) (shelvesMet h S)) cur fuel
@@ -35,6 +36,7 @@ unfolding shelvesMet loose
 found-begins h S I b =
     let none : h .«used_shelves» - h .«used_shelves» ≡ 0 = omega arith in
     record {
+      few = omega arith;
       free = 0;
       totals = rw none (totals-begin (loose h) S I b);
       lists = each-begins;
@@ -44,16 +46,18 @@ found-begins h S I b =
 
 module _ {h : Header} {S I : List ℕ} {cur fuel count area widths : ℕ} (so-far : AtFound h S I cur fuel count area widths) (some-row : cur ≢ noRow) (steps-left : 1 ≤ fuel)
     (steps-most : fuel ≤ h .«used_shelves») (s : ShelfRow) (row-is : s ≡ get shelves S cur) (w : Walked) where
-  pub found-past : {underEmpty : _} → ShelfFound h I cur s underEmpty widths w → w .right ≡ true → s .height ≤ 65535
-      → AtFound h S I (s .next .0) (fuel - 1) (count + w .count) (area + (h .limits .«shelf_width» - w .gap) * s .height) (w .widths)
+  pub found-past : {underEmpty : _} → ShelfFound h I cur s underEmpty count widths w → w .right ≡ true → s .height ≤ 65535
+      → AtFound h S I (s .next .0) (fuel - 1) (w .count) (area + (h .limits .«shelf_width» - w .gap) * s .height) (w .widths)
   unfolding loose freeMet itemsMet rowsOf Even
   found-past found right small =
       let next-is : s .next .0 ≡ shelfNext S cur = ap (λ (v : ShelfRow). v .next .0) row-is in
       let one : (h .«used_shelves» - fuel) + 1 ≡ h .«used_shelves» - (fuel - 1) = omega arith in
       let list = found .list right in
+      let all : count + (w .count - count) ≡ w .count = omega (arith, found .walks .more right) in
       record {
+        few = found .walks .few right;
         free = so-far .free + w .free;
-        totals = rw one at (past-items (so-far .totals) some-row steps-left s row-is _ (found .walks .tallied right) small refl);
+        totals = rw (one, all) at (past-items (so-far .totals) some-row steps-left s row-is _ (found .walks .tallied right) small refl);
         lists = rw next-is (each-onward (so-far .lists) some-row steps-left (rw row-is at (list .right)));
         frees = summed-as (so-far .frees) some-row steps-left (sym (list .length-is) ∙ rw row-is) next-is;
         even = λ k e.
@@ -70,6 +74,7 @@ found-ended {h} {S} {I} at stop two right =
     record {
       shelves-right = two;
       items-right = all .exact .sound refl;
+      few = at .few;
       free = at .free;
       counts = all .counts refl;
       lists = each-ended (at .lists) stop;
@@ -77,7 +82,7 @@ found-ended {h} {S} {I} at stop two right =
       even = λ k e. sym (sum-ended (at .even k e) stop);
     }
 
--- the counts fit their numbers
-pub found-fits : {h : Header} {S I : List ℕ} {cur fuel count area widths : ℕ} → AtFound h S I cur fuel count area widths → (count ≤ 65535 * 65535) × (area ≤ 65535 * 8589672450)
+-- the area fits its number
+pub area-fits : {h : Header} {S I : List ℕ} {cur fuel count area widths : ℕ} → AtFound h S I cur fuel count area widths → area ≤ 65535 * 8589672450
 unfolding loose
-found-fits at = (omega (arith, at .totals .items-most, at .totals .used-most), omega (arith, at .totals .area-most, at .totals .used-most))
+area-fits at = omega (arith, at .totals .area-most, at .totals .used-most)

@@ -1,5 +1,5 @@
 -- What the fast walk has found where it says yes: of one shelf, and of all of them. Assumes nothing.
-use Rattle.numbers.specs.Library.{ℕ, _+_, _%_, _^_, _≡_, Bool, true, List, length}
+use Rattle.numbers.specs.Library.{ℕ, _+_, _%_, _^_, _≤_, _≡_, Bool, true, List, length}
 use Rattle.rows.specs.Prelude.{get, shelves}
 use Rattle.rows.specs.declared.{header.Header.Header, shelf.ShelfRow.ShelfRow}
 use Rattle.chains.specs.Prelude.{Each, rowsFrom}
@@ -16,8 +16,8 @@ pub record ListFound (h : Header) (I : List ℕ) (on : ℕ) (s : ShelfRow) (free
   pub right : FreeListAt h I on (s .«first_unallocated» .0)
   pub length-is : length (rowsFrom (freeNext I) (h .«used_items») (s .«first_unallocated» .0)) ≡ free
 
-pub record ShelfFound (h : Header) (I : List ℕ) (on : ℕ) (s : ShelfRow) (underEmpty : Bool) (all : ℕ) (w : Walked) : Type 0 where
-  pub walks : Walks h I on s all w
+pub record ShelfFound (h : Header) (I : List ℕ) (on : ℕ) (s : ShelfRow) (underEmpty : Bool) (met all : ℕ) (w : Walked) : Type 0 where
+  pub walks : Walks h I on s met all w
   pub list : w .right ≡ true → ListFound h I on s (w .free)
   pub flagged : w .right ≡ true → FlagRight s (flag (oneFree h I (s .«first_item» .0))) underEmpty
 
@@ -26,6 +26,7 @@ pub record ShelvesFound (h : Header) (S I : List ℕ) (f : Found) : Type 0 where
   pub shelves-right : Rule2 h S I
   pub items-right : Rule3 (loose h) S I
   pub free : ℕ
+  pub few : f .items ≤ h .«used_items»
   pub counts : AllCounts (loose h) S I (record { right = true; shelves = f .shelves; items = f .items; free = free; stray = 0; area = f .area })
   pub lists : Each (λ on. FreeListAt h I on (get shelves S on .«first_unallocated» .0)) (shelvesMet h S)
   pub all-free : length (allFreeMet h S I) ≡ free

@@ -53,12 +53,20 @@ fn flag_right(h: Header, s: ShelfRow, gap: u32, under_empty: bool) -> bool
     s.is_empty == 1
 }
 
-// One shelf: its items, its free list, and its flag.
-fn one_shelf(h: Header, items: &[u16], on: u16, s: ShelfRow, under_empty: bool, all: u32) -> Walked
-    requires { ⌜ (h .«used_items» ≤ itemCapacity (now items)) × (1 ≤ h .limits .«shelf_width») ⌝ }
-    ensures { λ w. ⌜ ShelfFound h (now (items .entry)) on s «under_empty» all w ⌝ }
+// One shelf: its items, its free list, and its flag. `met` and `all` are what was counted and or-ed on the shelves before it.
+fn one_shelf(
+    h: Header,
+    items: &[u16],
+    on: u16,
+    s: ShelfRow,
+    under_empty: bool,
+    met: u32,
+    all: u32,
+) -> Walked
+    requires { ⌜ (h .«used_items» ≤ itemCapacity (now items)) × (1 ≤ h .limits .«shelf_width») × (met ≤ 65535) ⌝ }
+    ensures { λ w. ⌜ ShelfFound h (now (items .entry)) on s «under_empty» met all w ⌝ }
 {
-    let w = fast_items::items_right(h, items, on, s, all);
+    let w = fast_items::items_right(h, items, on, s, met, all);
     if !w.right {
         return w;
     }
@@ -93,11 +101,11 @@ fn all_shelves(h: Header, shelves: &[u16], items: &[u16]) -> Found
         if !audit_shelves::shelf_placed(h, prev, column, y, s) {
             return WRONG;
         }
-        let w = one_shelf(h, items, cur, s, under_empty, widths);
+        let w = one_shelf(h, items, cur, s, under_empty, count, widths);
         if !w.right {
             return WRONG;
         }
-        count += w.count;
+        count = w.count;
         area += (h.limits.shelf_width as u32 - w.gap) as u64 * s.height as u64;
         widths = w.widths;
         prev = cur;
@@ -159,9 +167,6 @@ pub fn says_yes(h: Header, shelves: &[u16], items: &[u16]) -> bool
         return false;
     }
     if f.area != h.occupied as u64 {
-        return false;
-    }
-    if (h.used_items as u32) < f.items {
         return false;
     }
     freed_right(h, shelves, items, f)

@@ -3,8 +3,8 @@ ghost use mathlib.Core.Path.{_≡_};
 ghost use Prim.Native.Nat.{_≤_};
 ghost use Rattle.numbers.specs.Prelude.{Decides};
 ghost use Rattle.rows.specs.Prelude.{itemCapacity};
-ghost use Rattle.audit_counts.specs.Fast.{LiveOf, Fits};
-ghost use Rattle.fast_items.specs.Walks.{Kept, passed, firstOf, EndsSo, LivesPast, Walks};
+ghost use Rattle.audit_counts.specs.Fast.{LiveOf};
+ghost use Rattle.fast_items.specs.Walks.{Near, Kept, passed, startOf, EndsSo, LivesPast, Walks};
 use numbers::index::NO_ROW;
 use rows::header::Header;
 use rows::item;
@@ -12,7 +12,7 @@ use rows::item::ItemRow;
 use rows::shelf::ShelfRow;
 
 // Where a walk along the items of a shelf has come to, if all was right: the row and where it starts, the row before, the place; how many items were
-// passed, and their widths, or-ed.
+// passed, on this shelf and on those before it, and their widths, or-ed.
 pub struct Passed {
     pub right: bool,
     pub cur: usize,
@@ -23,7 +23,7 @@ pub struct Passed {
     pub widths: u32,
 }
 
-// Whether the items are right, and then how many they are, how many of them are free and how wide these are together, and all widths, or-ed.
+// Whether the items are right, and then how many were passed up to here, how many of them are free and how wide these are together, and all widths, or-ed.
 pub struct Walked {
     pub right: bool,
     pub count: u32,
@@ -42,14 +42,15 @@ fn live_of(on: u16, i: ItemRow) -> bool
     item::tail_of(i) == LIVE + on as u64 * 4294967296
 }
 
-// Whether an item can stand at x, after the row `prev`.
+// Whether an item can stand at x, after the row `prev`. Its place is compared with the low half of x, as it stands in the row: at the shelf's end x is
+// below 65536, so that it was so all the way.
 fn fits(prev: u16, x: u32, i: ItemRow) -> bool
-    ensures { λ r. ⌜ Decides r (Fits prev x i) ⌝ }
+    ensures { λ r. ⌜ Decides r (Near prev x i) ⌝ }
 {
     if i.prev.0 != prev {
         return false;
     }
-    if i.x as u32 != x {
+    if i.x != (x % 65536) as u16 {
         return false;
     }
     i.width != 0
@@ -57,7 +58,7 @@ fn fits(prev: u16, x: u32, i: ItemRow) -> bool
 
 // Past an item that stands right.
 fn past(p: Passed, i: ItemRow) -> Passed
-    requires { ⌜ (p .cur ≤ 65535) × (p .x ≤ 65535) × (p .count ≤ 131070) ⌝ }
+    requires { ⌜ (p .cur ≤ 65535) × (p .x ≤ 4294836225) × (p .count ≤ 131069) ⌝ }
     ensures { λ r. ⌜ r ≡ passed p i ⌝ }
 {
     Passed {
@@ -73,7 +74,7 @@ fn past(p: Passed, i: ItemRow) -> Passed
 
 // On past the live items. A loop of their own, since most items are live: it carries no more than they need.
 fn lives(items: &[u16], used: u16, on: u16, from: Passed) -> Passed
-    requires { ⌜ (used ≤ itemCapacity (now items)) × Kept from ⌝ }
+    requires { ⌜ (used ≤ itemCapacity (now items)) × Kept (now items) used from ⌝ }
     ensures { λ r. ⌜ LivesPast (now (items .entry)) used on from r ⌝ }
 {
     let mut p = from;
@@ -98,9 +99,9 @@ fn lives(items: &[u16], used: u16, on: u16, from: Passed) -> Passed
     p
 }
 
-// Before the first item of a shelf. `all` is what the widths are or-ed to.
-fn first(s: ShelfRow, all: u32) -> Passed
-    ensures { λ r. ⌜ r ≡ firstOf s all ⌝ }
+// Before the first item of a shelf. `met` items were passed on the shelves before it, and the widths are or-ed to `all`, which is theirs.
+fn first(s: ShelfRow, met: u32, all: u32) -> Passed
+    ensures { λ r. ⌜ r ≡ startOf s met all ⌝ }
 {
     Passed {
         right: true,
@@ -108,7 +109,7 @@ fn first(s: ShelfRow, all: u32) -> Passed
         start: item::item_start(s.first_item),
         prev: NO_ROW,
         x: s.x as u32,
-        count: 0,
+        count: met,
         widths: all,
     }
 }
@@ -131,7 +132,11 @@ fn at_end(h: Header, s: ShelfRow, p: Passed, free: u32, gap: u32) -> Walked
     if (h.used_items as u32) < p.count {
         return WRONG;
     }
-    if p.x != s.x as u32 + h.limits.shelf_width as u32 {
+    let end = s.x as u32 + h.limits.shelf_width as u32;
+    if p.x != end {
+        return WRONG;
+    }
+    if 65535 < end {
         return WRONG;
     }
     Walked {
@@ -144,11 +149,11 @@ fn at_end(h: Header, s: ShelfRow, p: Passed, free: u32, gap: u32) -> Walked
 }
 
 // The items of shelf `s`, which stands in row `on`: runs of live items, and between them a free one, which no free one follows.
-pub fn items_right(h: Header, items: &[u16], on: u16, s: ShelfRow, all: u32) -> Walked
-    requires { ⌜ h .«used_items» ≤ itemCapacity (now items) ⌝ }
-    ensures { λ w. ⌜ Walks h (now (items .entry)) on s all w ⌝ }
+pub fn items_right(h: Header, items: &[u16], on: u16, s: ShelfRow, met: u32, all: u32) -> Walked
+    requires { ⌜ (h .«used_items» ≤ itemCapacity (now items)) × (met ≤ 65535) ⌝ }
+    ensures { λ w. ⌜ Walks h (now (items .entry)) on s met all w ⌝ }
 {
-    let mut p = first(s, all);
+    let mut p = first(s, met, all);
     let mut free: u32 = 0;
     let mut gap: u32 = 0;
     while p.cur < h.used_items as usize {

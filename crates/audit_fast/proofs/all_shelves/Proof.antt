@@ -4,7 +4,7 @@ use Rattle.numbers.specs.Prelude.{never, allowed}
 use Rattle.chains.proofs.Prelude.{unended}
 use Rattle.audit_shelves.proofs.Flags.{whole, product-fits}
 use Rattle.audit_shelves.proofs.ShelfTurns.{AtShelf, at-top, next-column, same-column}
-use Rattle.audit_fast.proofs.FoundTurns.{AtFound, found-begins, found-past, found-ended, found-fits}
+use Rattle.audit_fast.proofs.FoundTurns.{AtFound, found-begins, found-past, found-ended, area-fits}
 use Rattle.audit_fast.proofs.all_shelves.Statement.{statement}
 use Rattle.audit_fast.proofs.all_shelves.Tie as tie
 
@@ -16,36 +16,26 @@ Inv-loop h shelves items prev₀ column₀ y₀ under-empty₀ cur₀ fuel₀ co
 abbrev μ-loop : tie.MeasureT-loop
 μ-loop h shelves items prev₀ column₀ y₀ under-empty₀ cur₀ fuel₀ count₀ area₀ widths₀ prev column y underEmpty cur fuel count area widths = fuel
 
-count-fits : tie.Need-add-count Inv-loop μ-loop
-count-fits c =
-    let here = c .before .before .before in
+area-within : tie.Need-add-area Inv-loop μ-loop
+area-within c =
+    let here = c .before .before .before .before .before in
     let read = here .before .before .before in
     let turn = here .before .before .before .before .before .before .before .loop .inv in
     let steps = read .before .if2 .left in
-    let right = not-false _ (c .before .if4 .left) in
+    let right = not-false _ (c .before .before .before .if4 .left) in
     let found = found-past (turn .1) (λ q. omega (arith, read .before .before .if1 .taken, q)) (omega (arith, steps)) (omega (arith, turn .2)) _ (read .shelf-there .ensures) _ (here .one-shelf .ensures) right (omega (arith, read .shelf-there .ok)) in
-    omega (arith, found-fits found .0)
-
-area-fits : tie.Need-add-area Inv-loop μ-loop
-area-fits c =
-    let here = c .before .before .before .before .before .before in
-    let read = here .before .before .before in
-    let turn = here .before .before .before .before .before .before .before .loop .inv in
-    let steps = read .before .if2 .left in
-    let right = not-false _ (c .before .before .before .before .if4 .left) in
-    let found = found-past (turn .1) (λ q. omega (arith, read .before .before .if1 .taken, q)) (omega (arith, steps)) (omega (arith, turn .2)) _ (read .shelf-there .ensures) _ (here .one-shelf .ensures) right (omega (arith, read .shelf-there .ok)) in
-    omega (arith, found-fits found .1)
+    omega (arith, area-fits found)
 
 -- on to the next shelf, in the next column or in the same
 
 column-ended : tie.Need-loop-again Inv-loop μ-loop
 column-ended c =
-    let here = c .before .before .before .before .before .before .before .before .before .before in
+    let here = c .before .before .before .before .before .before .before .before .before in
     let read = here .before .before .before in
     let turn = here .before .before .before .before .before .before .before .loop .inv in
     let steps = read .before .if2 .left in
     let in-use = read .before .before .if1 .taken in
-    let right = not-false _ (c .before .before .before .before .before .before .before .before .if4 .left) in
+    let right = not-false _ (c .before .before .before .before .before .before .before .if4 .left) in
     let found = found-past (turn .1) (λ q. omega (arith, in-use, q)) (omega (arith, steps)) (omega (arith, turn .2)) _ (read .shelf-there .ensures) _ (here .one-shelf .ensures) right (omega (arith, read .shelf-there .ok)) in
     let placed = allowed (here .before .before .shelf-placed .ensures) (here .before .if3 .left) in
     let shelf = whole placed (here .one-shelf .ensures .flagged right) in (
@@ -57,12 +47,12 @@ column-ended c =
 
 on-in-column : tie.Need-loop-again-2 Inv-loop μ-loop
 on-in-column c =
-    let here = c .before .before .before .before .before .before .before .before .before .before in
+    let here = c .before .before .before .before .before .before .before .before .before in
     let read = here .before .before .before in
     let turn = here .before .before .before .before .before .before .before .loop .inv in
     let steps = read .before .if2 .left in
     let in-use = read .before .before .if1 .taken in
-    let right = not-false _ (c .before .before .before .before .before .before .before .before .if4 .left) in
+    let right = not-false _ (c .before .before .before .before .before .before .before .if4 .left) in
     let found = found-past (turn .1) (λ q. omega (arith, in-use, q)) (omega (arith, steps)) (omega (arith, turn .2)) _ (read .shelf-there .ensures) _ (here .one-shelf .ensures) right (omega (arith, read .shelf-there .ok)) in
     let placed = allowed (here .before .before .shelf-placed .ensures) (here .before .if3 .left) in
     let shelf = whole placed (here .one-shelf .ensures .flagged right) in (
@@ -83,21 +73,22 @@ all-shelves-spec =
     (λ c κs. omega (arith, c .before .before .before .before .before .before .pre .shelves-fit, c .before .if1 .taken))
     (λ c κs. tt)
     (λ c. record { yes = never })
-    (λ c κs. (c .before .before .before .before .before .before .before .before .before .pre .items-fit, c .before .before .before .before .before .before .before .before .before .pre .limits .S-least))
+    (λ c κs.
+    let one = c .before .before .before .before .before .before .before .before .before .pre in
+    (one .items-fit, one .limits .S-least, omega (arith, c .before .before .before .before .before .before .loop .inv .1 .few)))
     (λ c. record { yes = never })
-    count-fits
     (λ c. search needs)
-    (λ c. c .before .before .before .before .before .one-shelf .ensures .walks .gap-most (not-false _ (c .before .before .before .if4 .left)))
+    (λ c. c .before .before .before .before .one-shelf .ensures .walks .gap-most (not-false _ (c .before .before .if4 .left)))
     (λ c. search needs)
     (λ c. search needs)
-    (λ c. omega (arith, product-fits (c .before .before .before .before .before .before .before .before .before .before .before .before .before .before .before .before .args .h .limits .«shelf_width» - c .before .before .before .before .before .before .one-shelf .result .gap) (c .before .before .before .before .before .before .before .before .before .shelf-there .result .height) (omega arith) (omega (arith, c .before .before .before .before .before .before .before .before .before .shelf-there .ok))))
-    area-fits
+    (λ c. omega (arith, product-fits (c .before .before .before .before .before .before .before .before .before .before .before .before .before .before .before .args .h .limits .«shelf_width» - c .before .before .before .before .before .one-shelf .result .gap) (c .before .before .before .before .before .before .before .before .shelf-there .result .height) (omega (arith, c .before .before .before .before .before .before .before .before .before .before .before .before .before .before .before .pre .limits .S-most, c .before .before .before .before .before .before .before .before .before .before .before .before .before .before .before .pre .limits .sizes)) (omega (arith, c .before .before .before .before .before .before .before .before .shelf-there .ok))))
+    area-within
     (λ c. omega arith)
-    (λ c. let placed = allowed (c .before .before .before .before .before .before .before .before .before .shelf-placed .ensures) (c .before .before .before .before .before .before .before .before .if3 .left) in omega (arith, placed .in-column))
-    (λ c. omega (arith, c .before .before .before .before .before .before .before .before .before .before .before .before .before .before .before .before .before .loop .inv .2, c .before .before .before .before .before .before .before .before .before .before .before .before .before .before .if2 .left))
-    (λ c. omega (arith, c .before .before .before .before .before .before .before .before .before .before .before .before .before .before .if2 .left))
+    (λ c. let placed = allowed (c .before .before .before .before .before .before .before .before .shelf-placed .ensures) (c .before .before .before .before .before .before .before .if3 .left) in omega (arith, placed .in-column))
+    (λ c. omega (arith, c .before .before .before .before .before .before .before .before .before .before .before .before .before .before .before .before .loop .inv .2, c .before .before .before .before .before .before .before .before .before .before .before .before .before .if2 .left))
+    (λ c. omega (arith, c .before .before .before .before .before .before .before .before .before .before .before .before .before .if2 .left))
     column-ended
-    (λ c. omega (arith, c .before .before .before .before .before .before .before .before .before .before .before .before .before .before .if2 .left))
+    (λ c. omega (arith, c .before .before .before .before .before .before .before .before .before .before .before .before .before .if2 .left))
     on-in-column
     (λ c. record { yes = never })
     (λ c. record { yes = never })

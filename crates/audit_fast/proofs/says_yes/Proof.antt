@@ -5,11 +5,11 @@ use Rattle.audit_fast.proofs.Passing.{along-least, passing}
 use Rattle.audit_fast.proofs.says_yes.Statement.{statement}
 use Rattle.audit_fast.proofs.says_yes.Tie as tie
 
-all-found : tie.Need-returns-6
+all-found : tie.Need-returns-5
 all-found c =
-    let one = c .before .before .before .before .before .before .before .before .before .before .before .before .before .before .before .before .pre in
-    let found = c .before .before .before .before .before .before .before .before .before .before .before .all-shelves .ensures .yes (not-false _ (c .before .before .before .before .before .before .before .before .before .if2 .left)) in
-    record { sound = λ e. passing one _ (c .before .before .before .before .before .before .before .before .before .before .before .before .before .along-step .ensures) (c .before .before .before .before .before .before .before .before .before .before .before .before .if1 .left) _ found (c .before .before .before .before .before .before .before .if3 .left) (c .before .before .before .before .if4 .left) (c .freed-right .ensures .sound e) }
+    let shelves = c .before .before .before .before .before .before .before .before in
+    let found = shelves .all-shelves .ensures .yes (not-false _ (c .before .before .before .before .before .before .if2 .left)) in
+    record { sound = λ e. passing (shelves .before .before .before .before .before .pre) _ (shelves .before .before .along-step .ensures) (shelves .before .if1 .left) _ found (c .before .before .before .before .if3 .left) (c .before .if4 .left) (c .freed-right .ensures .sound e) }
 
 pub says-yes-spec : {M : Type 1} → statement M
 says-yes-spec =
@@ -24,7 +24,5 @@ says-yes-spec =
     (λ c. record { sound = never })
     (λ c. search needs)
     (λ c. record { sound = never })
-    (λ c. search needs)
-    (λ c. record { sound = never })
-    (λ c κs. (c .before .before .before .before .before .before .before .before .before .before .before .before .before .before .before .pre, omega (arith, c .if5 .left)))
+    (λ c κs. (c .before .before .before .before .before .before .before .before .before .before .before .before .pre, c .before .before .before .before .before .before .before .all-shelves .ensures .yes (not-false _ (c .before .before .before .before .before .if2 .left)) .few))
     all-found)

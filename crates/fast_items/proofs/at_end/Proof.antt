@@ -16,4 +16,5 @@ at-end-spec =
     (λ c. search needs)
     (λ c. search needs)
     (λ c. record { ended = never; counts = never })
-    (λ c. record { ended = λ e. record { stop = omega arith; few = omega arith; wide = omega arith }; counts = λ e. refl }))
+    (λ c. record { ended = never; counts = never })
+    (λ c. record { ended = λ e. record { stop = omega arith; few = omega arith; wide = omega arith; narrow = omega arith }; counts = λ e. refl }))
