@@ -1,6 +1,8 @@
 -- What the fast walk has found where it says yes: of one shelf, and of all of them. Assumes nothing.
-use Rattle.numbers.specs.Library.{ℕ, _+_, _%_, _^_, _≤_, _≡_, Bool, true, List, length}
-use Rattle.rows.specs.Prelude.{get, shelves}
+use Rattle.numbers.specs.Library.{ℕ, _+_, _-_, _%_, _^_, _≤_, _<_, _≡_, _⊎_, Bool, true, List, length}
+use lib.Bits.{bitAnd}
+use Rattle.numbers.specs.Prelude.{alongStep}
+use Rattle.rows.specs.Prelude.{get, shelves, items}
 use Rattle.rows.specs.declared.{header.Header.Header, shelf.ShelfRow.ShelfRow}
 use Rattle.chains.specs.Prelude.{Each, rowsFrom}
 use Rattle.rules.specs.Prelude.{flag, oneFree, freeNext, shelvesMet, itemsMet, freedShelvesMet, freedItemsMet, Rule2, Rule3, sumOver}
@@ -34,6 +36,16 @@ pub record ShelvesFound (h : Header) (S I : List ℕ) (f : Found) : Type 0 where
 
 pub record FoundSo (h : Header) (S I : List ℕ) (f : Found) : Type 0 where
   pub yes : f .right ≡ true → ShelvesFound h S I f
+
+-- the width of each used item row is a multiple of the step
+abbrev pub EachAligned : List ℕ → (used step : ℕ) → Type 0
+EachAligned I used step = (row : ℕ) → row < used → get items I row .width % step ≡ 0
+
+-- Either the along alignment is a power of two, which divides the widths that were or-ed, or it divides each width.
+abbrev pub WidthsFound : Header → List ℕ → (widths : ℕ) → Type 0
+WidthsFound h I widths =
+    let step = alongStep (h .limits) in
+    ((bitAnd step (step - 1) ≡ 0) × (widths % step ≡ 0)) ⊎ EachAligned I (h .«used_items») step
 
 -- the freed rows are right, and with those on the chains they are all the used ones
 pub record FreedFound (h : Header) (S I : List ℕ) (f : Found) : Type 0 where

@@ -2,15 +2,17 @@
 // audit would too; where it says no, that has to be asked.
 ghost use lib.Dec.{eqb};
 ghost use Prim.Native.Nat.{_≤_};
-ghost use Rattle.numbers.specs.Prelude.{Decides};
+ghost use Rattle.numbers.specs.Prelude.{Decides, alongStep};
 ghost use Rattle.rows.specs.Prelude.{itemCapacity};
 ghost use Rattle.audit_shelves.specs.Placed.{FlagRight};
 ghost use Rattle.rules.specs.Prelude.{Rule1, Passes, flag};
-ghost use Rattle.audit_fast.specs.Found.{ShelfFound, FoundSo, FreedFound, SaysYes};
+ghost use Rattle.audit_fast.specs.Found.{ShelfFound, FoundSo, EachAligned, WidthsFound, FreedFound, SaysYes};
 use fast_items::Walked;
+use numbers::index::ItemIndex;
 use numbers::index::NO_ROW;
 use numbers::index::ShelfIndex;
 use rows::header::Header;
+use rows::item;
 use rows::shelf;
 use rows::shelf::ShelfRow;
 
@@ -150,20 +152,44 @@ fn freed_right(h: Header, shelves: &[u16], items: &[u16], f: Found) -> bool
     fast_lists::freed_items(h, items, h.free_items.0 as usize, rest)
 }
 
-// Whether one walk finds all the rules kept. It tests widths against an alignment that is a power of two; for another it says no at once.
+// Whether the width of each used item row is a multiple of `step`: a division for each. Freed rows are 0 wide, and need no exception.
+fn each_aligned(items: &[u16], used: u16, step: u32) -> bool
+    requires { ⌜ (used ≤ itemCapacity (now items)) × (1 ≤ step) ⌝ }
+    ensures { λ r. ⌜ Decides r (EachAligned (now (items .entry)) used step) ⌝ }
+{
+    let mut row: u16 = 0;
+    while row < used {
+        let i = item::item_there(items, ItemIndex(row));
+        if i.width as u32 % step != 0 {
+            return false;
+        }
+        row += 1;
+    }
+    true
+}
+
+// Whether the widths on the shelves, which are or-ed to `widths`, are aligned. Where the alignment is a power of two they are tested all at once.
+fn widths_right(h: Header, items: &[u16], widths: u32) -> bool
+    requires { ⌜ (h .«used_items» ≤ itemCapacity (now items)) × (1 ≤ alongStep (h .limits)) ⌝ }
+    ensures { λ r. ⌜ SaysYes r (WidthsFound h (now (items .entry)) widths) ⌝ }
+{
+    let step = limit_checks::along_step(h.limits);
+    if step & (step - 1) == 0 {
+        return widths % step == 0;
+    }
+    each_aligned(items, h.used_items, step)
+}
+
+// Whether one walk finds all the rules kept.
 pub fn says_yes(h: Header, shelves: &[u16], items: &[u16]) -> bool
     requires { ⌜ Rule1 h (now shelves) (now items) ⌝ }
     ensures { λ r. ⌜ SaysYes r (Passes h (now (shelves .entry)) (now (items .entry))) ⌝ }
 {
-    let step = limit_checks::along_step(h.limits);
-    if step & (step - 1) != 0 {
-        return false;
-    }
     let f = all_shelves(h, shelves, items);
     if !f.right {
         return false;
     }
-    if f.widths % step != 0 {
+    if !widths_right(h, items, f.widths) {
         return false;
     }
     if f.area != h.occupied as u64 {
