@@ -1,10 +1,11 @@
 // A fast yes: one walk over the shelves, their items and their free lists, which stops at the first thing that is not right. Where it says yes the exact
 // audit would too; where it says no, that has to be asked.
 ghost use lib.Dec.{eqb};
-ghost use Prim.Native.Nat.{_≤_};
+ghost use mathlib.Core.Path.{_≡_};
+ghost use Prim.Native.Nat.{_+_, _≤_};
 ghost use Rattle.numbers.specs.Prelude.{Decides, alongStep};
 ghost use Rattle.rows.specs.Prelude.{itemCapacity};
-ghost use Rattle.audit_shelves.specs.Placed.{FlagRight};
+ghost use Rattle.audit_shelves.specs.Placed.{ShelfPlaced, FlagRight};
 ghost use Rattle.rules.specs.Prelude.{Rule1, Passes, flag};
 ghost use Rattle.audit_fast.specs.Found.{ShelfFound, FoundSo, EachAligned, WidthsFound, FreedFound, SaysYes};
 use fast_items::Walked;
@@ -40,6 +41,26 @@ const WRONG: Found = Found {
     area: 0,
     widths: 0,
 };
+
+// Whether a shelf stands where the walk has come to, from y to `end`. Depths have 32 bits here, so that they are added once (measured).
+fn placed(h: Header, prev: u16, column: u16, y: u32, end: u32, s: ShelfRow) -> bool
+    requires { ⌜ end ≡ y + s .height ⌝ }
+    ensures { λ r. ⌜ Decides r (ShelfPlaced h prev column y s) ⌝ }
+{
+    if s.prev.0 != prev {
+        return false;
+    }
+    if s.x as u32 != column as u32 * h.limits.shelf_width as u32 {
+        return false;
+    }
+    if s.y as u32 != y {
+        return false;
+    }
+    if s.height == 0 {
+        return false;
+    }
+    end <= h.limits.height as u32
+}
 
 // Whether a shelf with free items of this width together has its flag, and no empty shelf follows an empty one. No two free items adjoin, so that the shelf
 // is one free item exactly when they are as wide as it is.
@@ -88,7 +109,7 @@ fn all_shelves(h: Header, shelves: &[u16], items: &[u16]) -> Found
 {
     let mut prev: u16 = NO_ROW;
     let mut column: u16 = 0;
-    let mut y: u16 = 0;
+    let mut y: u32 = 0;
     let mut under_empty = false;
     let mut cur: u16 = 0;
     let mut fuel: u16 = h.used_shelves;
@@ -100,7 +121,8 @@ fn all_shelves(h: Header, shelves: &[u16], items: &[u16]) -> Found
             return WRONG;
         }
         let s = shelf::shelf_there(shelves, ShelfIndex(cur));
-        if !audit_shelves::shelf_placed(h, prev, column, y, s) {
+        let end = y + s.height as u32;
+        if !placed(h, prev, column, y, end, s) {
             return WRONG;
         }
         let w = one_shelf(h, items, cur, s, under_empty, count, widths);
@@ -113,9 +135,9 @@ fn all_shelves(h: Header, shelves: &[u16], items: &[u16]) -> Found
         prev = cur;
         cur = s.next.0;
         fuel -= 1;
-        y += s.height;
+        y = end;
         under_empty = s.is_empty == 1;
-        if y == h.limits.height {
+        if y == h.limits.height as u32 {
             column += 1;
             y = 0;
             under_empty = false;

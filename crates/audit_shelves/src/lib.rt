@@ -29,7 +29,7 @@ fn empty_flag(h: Header, items: &[u16], first: ItemIndex) -> u16
 }
 
 // Whether a shelf stands where the walk has come to.
-pub fn shelf_placed(h: Header, prev: u16, column: u16, y: u16, s: ShelfRow) -> bool
+fn shelf_placed(h: Header, prev: u16, column: u16, y: u16, s: ShelfRow) -> bool
     ensures { λ r. ⌜ Decides r (ShelfPlaced h prev column y s) ⌝ }
 {
     if s.prev.0 != prev {
@@ -51,7 +51,7 @@ pub fn shelf_placed(h: Header, prev: u16, column: u16, y: u16, s: ShelfRow) -> b
 }
 
 // Whether a shelf has the flag that is due, and no empty shelf follows an empty one.
-pub fn flag_right(s: ShelfRow, due: u16, under_empty: bool) -> bool
+fn flag_right(s: ShelfRow, due: u16, under_empty: bool) -> bool
     ensures { λ r. ⌜ Decides r (FlagRight s due «under_empty») ⌝ }
 {
     if s.is_empty != due {

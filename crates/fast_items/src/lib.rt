@@ -50,10 +50,10 @@ fn fits(prev: u16, x: u32, i: ItemRow) -> bool
     if i.prev.0 != prev {
         return false;
     }
-    if i.x != (x % 65536) as u16 {
+    if i.width == 0 {
         return false;
     }
-    i.width != 0
+    i.x == (x % 65536) as u16
 }
 
 // Past an item that stands right.

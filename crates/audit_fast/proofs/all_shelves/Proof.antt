@@ -1,5 +1,5 @@
 -- `all_shelves`. Assumes nothing.
-use Rattle.numbers.specs.Library.{_+_, _-_, _≤_, _∙_, arith, eqb-true, not-false, needs}
+use Rattle.numbers.specs.Library.{refl, _+_, _-_, _≤_, _∙_, arith, eqb-true, not-false, needs}
 use Rattle.numbers.specs.Prelude.{never, allowed}
 use Rattle.chains.proofs.Prelude.{unended}
 use Rattle.audit_shelves.proofs.Flags.{whole, product-fits}
@@ -19,8 +19,8 @@ abbrev μ-loop : tie.MeasureT-loop
 area-within : tie.Need-add-area Inv-loop μ-loop
 area-within c =
     let here = c .before .before .before .before .before in
-    let read = here .before .before .before in
-    let turn = here .before .before .before .before .before .before .before .loop .inv in
+    let read = here .before .before .before .before in
+    let turn = here .before .before .before .before .before .before .before .before .loop .inv in
     let steps = read .before .if2 .left in
     let right = not-false _ (c .before .before .before .if4 .left) in
     let found = found-past (turn .1) (λ q. omega (arith, read .before .before .if1 .taken, q)) (omega (arith, steps)) (omega (arith, turn .2)) _ (read .shelf-there .ensures) _ (here .one-shelf .ensures) right (omega (arith, read .shelf-there .ok)) in
@@ -30,14 +30,14 @@ area-within c =
 
 column-ended : tie.Need-loop-again Inv-loop μ-loop
 column-ended c =
-    let here = c .before .before .before .before .before .before .before .before .before in
-    let read = here .before .before .before in
-    let turn = here .before .before .before .before .before .before .before .loop .inv in
+    let here = c .before .before .before .before .before .before .before .before in
+    let read = here .before .before .before .before in
+    let turn = here .before .before .before .before .before .before .before .before .loop .inv in
     let steps = read .before .if2 .left in
     let in-use = read .before .before .if1 .taken in
-    let right = not-false _ (c .before .before .before .before .before .before .before .if4 .left) in
+    let right = not-false _ (c .before .before .before .before .before .before .if4 .left) in
     let found = found-past (turn .1) (λ q. omega (arith, in-use, q)) (omega (arith, steps)) (omega (arith, turn .2)) _ (read .shelf-there .ensures) _ (here .one-shelf .ensures) right (omega (arith, read .shelf-there .ok)) in
-    let placed = allowed (here .before .before .shelf-placed .ensures) (here .before .if3 .left) in
+    let placed = allowed (here .before .before .placed .ensures) (here .before .if3 .left) in
     let shelf = whole placed (here .one-shelf .ensures .flagged right) in (
       next-column (turn .0) (λ q. omega (arith, in-use, q)) _ (read .shelf-there .ensures) (omega (arith, steps)) in-use shelf (c .if5 .taken),
       found,
@@ -47,14 +47,14 @@ column-ended c =
 
 on-in-column : tie.Need-loop-again-2 Inv-loop μ-loop
 on-in-column c =
-    let here = c .before .before .before .before .before .before .before .before .before in
-    let read = here .before .before .before in
-    let turn = here .before .before .before .before .before .before .before .loop .inv in
+    let here = c .before .before .before .before .before .before .before .before in
+    let read = here .before .before .before .before in
+    let turn = here .before .before .before .before .before .before .before .before .loop .inv in
     let steps = read .before .if2 .left in
     let in-use = read .before .before .if1 .taken in
-    let right = not-false _ (c .before .before .before .before .before .before .before .if4 .left) in
+    let right = not-false _ (c .before .before .before .before .before .before .if4 .left) in
     let found = found-past (turn .1) (λ q. omega (arith, in-use, q)) (omega (arith, steps)) (omega (arith, turn .2)) _ (read .shelf-there .ensures) _ (here .one-shelf .ensures) right (omega (arith, read .shelf-there .ok)) in
-    let placed = allowed (here .before .before .shelf-placed .ensures) (here .before .if3 .left) in
+    let placed = allowed (here .before .before .placed .ensures) (here .before .if3 .left) in
     let shelf = whole placed (here .one-shelf .ensures .flagged right) in (
       same-column (turn .0) (λ q. omega (arith, in-use, q)) _ (read .shelf-there .ensures) (omega (arith, steps)) in-use shelf (c .if5 .left),
       found,
@@ -71,20 +71,25 @@ all-shelves-spec =
     (λ c. (at-top _ _ _ (omega arith), found-begins _ _ _ (omega arith), omega arith, omega arith))
     (λ c. record { yes = never })
     (λ c κs. omega (arith, c .before .before .before .before .before .before .pre .shelves-fit, c .before .if1 .taken))
-    (λ c κs. tt)
+    (λ c. search needs)
+    (λ c. omega (arith, c .before .before .before .before .before .loop .inv .3))
+    (λ c κs. refl)
     (λ c. record { yes = never })
     (λ c κs.
-    let one = c .before .before .before .before .before .before .before .before .before .pre in
-    (one .items-fit, one .limits .S-least, omega (arith, c .before .before .before .before .before .before .loop .inv .1 .few)))
+    let one = c .before .before .before .before .before .before .before .before .before .before .pre in
+    (one .items-fit, one .limits .S-least, omega (arith, c .before .before .before .before .before .before .before .loop .inv .1 .few)))
     (λ c. record { yes = never })
     (λ c. search needs)
     (λ c. c .before .before .before .before .one-shelf .ensures .walks .gap-most (not-false _ (c .before .before .if4 .left)))
     (λ c. search needs)
     (λ c. search needs)
-    (λ c. omega (arith, product-fits (c .before .before .before .before .before .before .before .before .before .before .before .before .before .before .before .args .h .limits .«shelf_width» - c .before .before .before .before .before .one-shelf .result .gap) (c .before .before .before .before .before .before .before .before .shelf-there .result .height) (omega (arith, c .before .before .before .before .before .before .before .before .before .before .before .before .before .before .before .pre .limits .S-most, c .before .before .before .before .before .before .before .before .before .before .before .before .before .before .before .pre .limits .sizes)) (omega (arith, c .before .before .before .before .before .before .before .before .shelf-there .ok))))
+    (λ c.
+    let one = c .before .before .before .before .before .before .before .before .before .before .before .before .before .before .before .before .pre in
+    let read = c .before .before .before .before .before .before .before .before .before .shelf-there in
+    omega (arith, product-fits (c .before .before .before .before .before .before .before .before .before .before .before .before .before .before .before .before .args .h .limits .«shelf_width» - c .before .before .before .before .before .one-shelf .result .gap) (read .result .height) (omega (arith, one .limits .S-most, one .limits .sizes)) (omega (arith, read .ok))))
     area-within
     (λ c. omega arith)
-    (λ c. let placed = allowed (c .before .before .before .before .before .before .before .before .shelf-placed .ensures) (c .before .before .before .before .before .before .before .if3 .left) in omega (arith, placed .in-column))
+    (λ c. search needs)
     (λ c. omega (arith, c .before .before .before .before .before .before .before .before .before .before .before .before .before .before .before .before .loop .inv .2, c .before .before .before .before .before .before .before .before .before .before .before .before .before .if2 .left))
     (λ c. omega (arith, c .before .before .before .before .before .before .before .before .before .before .before .before .before .if2 .left))
     column-ended
