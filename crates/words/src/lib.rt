@@ -2,6 +2,7 @@
 ghost use mathlib.Core.Path.{_≡_};
 ghost use Prim.Native.Nat.{_+_, _*_, _<_, _≤_};
 ghost use lib.ListN.{length, getD, replicate};
+ghost use Rattle.numbers.specs.Prelude.{Decides};
 ghost use Rattle.image_form.specs.Bytes.{bytesOf, wordsOf, total};
 
 fn wide(x: u8) -> u16
@@ -79,4 +80,17 @@ pub fn sum_of_words(bytes: &[u8]) -> u32
         i += 1;
     }
     sum
+}
+
+// Whether the bytes' words are all zero, which is whether their sum is. They are or-ed, which is faster than to sum them.
+pub fn all_zero(bytes: &[u8]) -> bool
+    ensures { λ r. ⌜ Decides r (total (wordsOf (now (bytes .entry))) ≡ 0) ⌝ }
+{
+    let mut any: u16 = 0;
+    let mut i: usize = 0;
+    while i < bytes.len() / 2 {
+        any = any | word(bytes, i);
+        i += 1;
+    }
+    any == 0
 }
