@@ -7,7 +7,7 @@ ghost use Rattle.numbers.specs.Prelude.{Decides};
 ghost use Rattle.image_form.specs.Bytes.{bytesOf, wordsOf, total};
 ghost use Rattle.image_form.specs.Blocks.{heading, block};
 ghost use Rattle.image_form.specs.Form1.{form1};
-ghost use Rattle.blocks.specs.Right.{BlockRight, unusedSum};
+ghost use Rattle.blocks.specs.Right.{BlockRight, unusedSum, CheckRight};
 
 // The three words in front: the block's number, the form with the kind above it, and the rows.
 fn heading(number: u16, kind: u16, rows: u16) -> [u16; 3]
@@ -53,17 +53,18 @@ fn heading_right(block: &[u8], number: u16, kind: u16, rows: u16) -> bool
     words::word(block, 2) == rows
 }
 
-// Whether the words of the data after its first `count` are all zero, where `sum` is that of the words before the check. The fewer are summed: the words
-// after these, or those in front, which then make the whole sum.
-fn unused_zero(block: &[u8], count: usize, sum: u32) -> bool
-    requires { ⌜ (length (now block) ≡ 512) × (count ≤ 252) × (sum ≡ total (wordsOf (take 510 (now block)))) ⌝ }
-    ensures { λ r. ⌜ Decides r (unusedSum count (now (block .entry)) ≡ 0) ⌝ }
+// Whether the check is that of the words before it, where those after the data are zero and add nothing. A fuller block is summed whole and the check taken
+// off again: the length of what is summed is then known when this is compiled, which is faster.
+fn check_right(block: &[u8], count: usize) -> bool
+    requires { ⌜ (length (now block) ≡ 512) × (count ≤ 252) × (unusedSum count (wordsOf (now block)) ≡ 0) ⌝ }
+    ensures { λ r. ⌜ Decides r (CheckRight count (wordsOf (now (block .entry)))) ⌝ }
 {
     let end = 6 + 2 * count;
-    if count < 126 {
-        return words::sum_of_words(&block[0..end]) == sum;
+    let check = words::word(block, 255) as u32;
+    if count < 150 {
+        return words::sum_of_words(&block[0..end]) % 65535 == check;
     }
-    words::sum_of_words(&block[end..510]) == 0
+    (words::sum_of_words(&block[0..512]) - check) % 65535 == check
 }
 
 // Whether this is the block with that heading and with the first `count` words of its data, all others of them zero.
@@ -74,9 +75,9 @@ pub fn block_right(block: &[u8], number: u16, kind: u16, rows: u16, count: usize
     if !heading_right(block, number, kind, rows) {
         return false;
     }
-    let sum = words::sum_of_words(&block[0..510]);
-    if sum % 65535 != words::word(block, 255) as u32 {
+    let end = 6 + 2 * count;
+    if !words::all_zero(&block[end..510]) {
         return false;
     }
-    unused_zero(block, count, sum)
+    check_right(block, count)
 }

@@ -123,12 +123,16 @@ module _ (words : List ℕ) (count : ℕ) (long : length words ≡ 256) (few : c
       ∙ ap (λ (l : List ℕ). held ++ l) (drop-drop count 3 words ∙ sym (take-append-drop (252 - count) (drop (3 + count) words))
       ∙ ap (λ (l : List ℕ). unused ++ l) (drop-drop (252 - count) (3 + count) words ∙ ap (λ (n : ℕ). drop n words) sum ∙ end)))
 
+  summed : total (take (3 + count) words) ≡ total (take 3 words) + total held
+  summed = ap total (take-add 3 count words) ∙ total-append (take 3 words) held
+
+  pub whole-sum : total words ≡ total (take (3 + count) words) + total unused + getD words 255 0
+  unfolding total
+  whole-sum = omega (arith, summed, simp total-append at (ap total pieces))
+
   module _ (number kind rows : ℕ) where
     abbrev made : List ℕ
     made = head1 number kind rows ++ (held ++ (replicate (252 - length held) 0 ++ (checkOf number kind rows held ∷ [])))
-
-    summed : total (take (3 + count) words) ≡ total (take 3 words) + total held
-    summed = ap total (take-add 3 count words) ∙ total-append (take 3 words) held
 
     -- the three tests say that this is the block of the data that stands in it
     pub block-right : take 3 words ≡ head1 number kind rows → total unused ≡ 0 → total (take (3 + count) words) % 65535 ≡ getD words 255 0

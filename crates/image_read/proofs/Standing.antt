@@ -16,7 +16,7 @@ use Rattle.blocks.specs.Right.{BlockRight}
 use Rattle.row_blocks.proofs.ByRows.{rows-met, rows-right, numbers-are, length-is}
 use Rattle.image_sizes.specs.Sizes.{SizesOf}
 use Rattle.image_sizes.specs.declared.Sizes.{Sizes}
-use Rattle.image_sizes.proofs.Fitting.{shelves-laid, items-laid, all-shelves, all-items}
+use Rattle.image_sizes.proofs.Fitting.{shelves-laid, items-laid}
 use Rattle.image_promises.specs.Promises.{Holds}
 use Rattle.image_read.specs.Right.{headerIn, headerBlock, shelfBlocks, itemBlocks, RowsRight, Right, shelfNumbers, itemNumbers}
 
@@ -134,13 +134,13 @@ module _ (image : List ℕ) (small : (i : ℕ) → getD image i 0 < 256) {z : Si
   unfolding blocksOf shelfRows
   shelves-are =
       rw (length-first shelves (shelfNumbers image h z) (h .«used_shelves»), ← (r .sized .shelf-blocks))
-      (rows-met shelfRows (shelves-laid (r .sized) 1 (omega arith)) (shelfBlocks image z) (shelf-words-long image (r .sized) (r .long)) (all-shelves (r .sized)) (r .rows .shelves))
+      (rows-met shelfRows (shelves-laid (r .sized) 1 (omega arith)) (shelfBlocks image z) (shelf-words-long image (r .sized) (r .long)) (r .rows .shelves))
 
   items-are : blocksOf form1 itemRows (1 + blockCount 31 (length shelvesStanding)) itemsStanding ≡ itemBlocks image z
   unfolding blocksOf itemRows
   items-are =
       rw (length-first shelves (shelfNumbers image h z) (h .«used_shelves»), length-first items (itemNumbers image h z) (h .«used_items»), ← (r .sized .shelf-blocks), ← (r .sized .item-blocks))
-      (rows-met itemRows (items-laid (r .sized) (1 + z .«shelf_blocks») (omega arith)) (itemBlocks image z) (item-words-long image (r .sized) (r .long)) (all-items (r .sized)) (r .rows .items))
+      (rows-met itemRows (items-laid (r .sized) (1 + z .«shelf_blocks») (omega arith)) (itemBlocks image z) (item-words-long image (r .sized) (r .long)) (r .rows .items))
 
   parts-are : (headerBlock image ++ shelfBlocks image z) ++ itemBlocks image z ≡ imageWords h shelvesStanding itemsStanding
   unfolding imageWords
@@ -263,6 +263,6 @@ module _ (image : List ℕ) (small : (i : ℕ) → getD image i 0 < 256) {h : He
     sizes = sizes;
     right = record { header = first-right; sized = rw header-stands sized; long = ends-there; rows = rw header-stands right-rows };
     header = header-stands;
-    shelf-numbers = numbers-are shelfRows (shelves-laid sized 1 (omega arith)) shelf-rows (has .shelf-count) (shelfBlocks image sizes) (shelves-stand ∙ shelf-words-are) (all-shelves sized);
-    item-numbers = numbers-are itemRows (items-laid sized (1 + sizes .«shelf_blocks») (omega arith)) item-rows (has .item-count) (itemBlocks image sizes) (items-stand ∙ item-words-are) (all-items sized);
+    shelf-numbers = numbers-are shelfRows (shelves-laid sized 1 (omega arith)) shelf-rows (has .shelf-count) (shelfBlocks image sizes) (shelves-stand ∙ shelf-words-are);
+    item-numbers = numbers-are itemRows (items-laid sized (1 + sizes .«shelf_blocks») (omega arith)) item-rows (has .item-count) (itemBlocks image sizes) (items-stand ∙ item-words-are);
   }

@@ -12,7 +12,7 @@ use Rattle.image_form.proofs.Pieces.{same-up-to, length-up-to, piece-at, up-to-
 use Rattle.image_form.proofs.Tables.{numbers, length-numbers, numbers-append, numbers-take, numbers-drop, length-first, numbers-first}
 use Rattle.image_form.proofs.Blocks.{length-block, data-back}
 use Rattle.blocks.specs.Right.{BlockRight}
-use Rattle.row_blocks.specs.Layout.{layoutOf, Laid, rowsIn, numbersHeld, tableBlock, AllRight, heldIn}
+use Rattle.row_blocks.specs.Layout.{layoutOf, Laid, rowsIn, numbersHeld, tableBlock, RightAt, AllRight, heldIn}
 use Rattle.row_blocks.proofs.Places.{place, length-held, held-full, met-all}
 
 take-min : {A : Type 0} (m : ℕ) (l : List A) → take m l ≡ take (min m (length l)) l
@@ -58,7 +58,7 @@ module _ {A : Type 0} (k : Kind A) {first used n : ℕ} (l : Laid (layoutOf k) f
 
   -- ---- met: blocks that are right are those of the rows that stand in them
 
-  module _ (words : List ℕ) (long : length words ≡ n * 256) (all : used ≤ n * k .most) where
+  module _ (words : List ℕ) (long : length words ≡ n * 256) where
     -- the numbers that stand there, and the rows
     abbrev pub met : List ℕ
     met = upTo (heldIn (layoutOf k) used words) n
@@ -71,7 +71,7 @@ module _ {A : Type 0} (k : Kind A) {first used n : ℕ} (l : Laid (layoutOf k) f
     met-fit = go used refl where
       go : (u : ℕ) → u ≡ used → u ≤ rows s met
       go zero e = omega arith
-      go (suc u) e = fit-rows s met u (omega (arith, l .few-rows)) (omega (arith, suc-mul u (s .width), ap (λ (m : ℕ). m * s .width) e, met-all l words long all))
+      go (suc u) e = fit-rows s met u (omega (arith, l .few-rows)) (omega (arith, suc-mul u (s .width), ap (λ (m : ℕ). m * s .width) e, met-all l words long))
 
     -- the data of block b stands in its place among the numbers
     held-there : (b : ℕ) → b < n → take (numbersHeld (layoutOf k) used b) (drop (b * k .most * s .width) met) ≡ heldIn (layoutOf k) used words b
@@ -81,7 +81,7 @@ module _ {A : Type 0} (k : Kind A) {first used n : ℕ} (l : Laid (layoutOf k) f
         (piece-at (heldIn (layoutOf k) used words) (k .most * s .width) n b c (λ j d. held-full l words long j d))
 
     pub rows-met : AllRight (layoutOf k) used first n words → upTo (rowsBlock form1 k first rowsMet) n ≡ words
-    unfolding AllRight BlockRight tableBlock heldIn layoutOf
+    unfolding AllRight RightAt BlockRight tableBlock heldIn layoutOf
     rows-met right = table-blocks met met-fit ∙ up-to-is (tableBlock (layoutOf k) used first met) 256 words n long one where
       one : (b : ℕ) → b < n → take 256 (drop (b * 256) words) ≡ tableBlock (layoutOf k) used first met b
       one b c = right b c ∙ ap (block form1 (first + b) (layoutOf k .kind) (rowsIn (layoutOf k) used b)) (sym (held-there b c))
@@ -112,13 +112,14 @@ module _ {A : Type 0} (k : Kind A) {first used n : ℕ} (l : Laid (layoutOf k) f
         ∙ data-back (first + b) (k .number) (length (rowsOfBlock form1 k rs b)) (numbers s (rowsOfBlock form1 k rs b)) (numbersHeld (layoutOf k) used b) (numbers-long rs count b)
 
     pub rows-right : AllRight (layoutOf k) used first n words
-    unfolding AllRight BlockRight rowsBlock heldIn layoutOf
+    unfolding AllRight RightAt BlockRight rowsBlock heldIn layoutOf
     rows-right b c =
         block-at b c ∙ ap (λ (r : ℕ). block form1 (first + b) (k .number) r (numbers s (rowsOfBlock form1 k rs b))) (rows-long rs count b)
         ∙ ap (block form1 (first + b) (k .number) (rowsIn (layoutOf k) used b)) (sym (held-is b c))
 
-    pub numbers-are : used ≤ n * k .most → upTo (heldIn (layoutOf k) used words) n ≡ numbers s rs
-    numbers-are all = same-up-to _ _ n held-is ∙ front n ∙ ap (numbers s) (take-all (n * k .most) rs (omega (arith, count, all))) where
+    pub numbers-are : upTo (heldIn (layoutOf k) used words) n ≡ numbers s rs
+    unfolding layoutOf
+    numbers-are = same-up-to _ _ n held-is ∙ front n ∙ ap (numbers s) (take-all (n * k .most) rs (omega (arith, count, l .all-held))) where
       front : (m : ℕ) → upTo (λ b. numbers s (rowsOfBlock form1 k rs b)) m ≡ numbers s (take (m * k .most) rs)
       front zero = let z : 0 * k .most ≡ 0 = omega arith in rw z
       front (suc m) =

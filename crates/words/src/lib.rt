@@ -2,6 +2,7 @@
 ghost use mathlib.Core.Path.{_≡_};
 ghost use Prim.Native.Nat.{_+_, _*_, _<_, _≤_};
 ghost use lib.ListN.{length, getD, replicate};
+ghost use Rattle.numbers.specs.Prelude.{Decides};
 ghost use Rattle.image_form.specs.Bytes.{bytesOf, wordsOf, total};
 
 fn wide(x: u8) -> u16
@@ -18,29 +19,16 @@ pub fn word(bytes: &[u8], at: usize) -> u16
     wide(bytes[2 * at]) + 256 * wide(bytes[2 * at + 1])
 }
 
-// The words of n numbers' bytes, into the n numbers.
-fn read_each(numbers: &mut [u16], bytes: &[u8], n: usize)
-    requires { ⌜ (length (now numbers) ≡ n) × (length (now bytes) ≡ 2 * n) ⌝ }
-    ensures { λ _. ⌜ now (numbers .exit) ≡ wordsOf (now (bytes .entry)) ⌝ }
-{
-    let mut i: usize = 0;
-    while i < n {
-        numbers[i] = word(bytes, i);
-        i += 1;
-    }
-}
-
-// The bytes' words, into numbers that are as many. Where they are as many as usual the length is known when this is compiled, which is faster.
-pub fn read_words(numbers: &mut [u16], bytes: &[u8], usual: usize)
+// The bytes' words, into numbers that are as many.
+pub fn read_words(numbers: &mut [u16], bytes: &[u8])
     requires { ⌜ length (now bytes) ≡ 2 * length (now numbers) ⌝ }
     ensures { λ _. ⌜ now (numbers .exit) ≡ wordsOf (now (bytes .entry)) ⌝ }
 {
-    let n = numbers.len();
-    if n == usual {
-        read_each(numbers, bytes, usual);
-        return;
+    let mut i: usize = 0;
+    while i < numbers.len() {
+        numbers[i] = word(bytes, i);
+        i += 1;
     }
-    read_each(numbers, bytes, n);
 }
 
 // The numbers' bytes, over bytes that are as many.
@@ -79,4 +67,17 @@ pub fn sum_of_words(bytes: &[u8]) -> u32
         i += 1;
     }
     sum
+}
+
+// Whether the bytes' words are all zero, which is whether their sum is. They are or-ed, which is faster than to sum them.
+pub fn all_zero(bytes: &[u8]) -> bool
+    ensures { λ r. ⌜ Decides r (total (wordsOf (now (bytes .entry))) ≡ 0) ⌝ }
+{
+    let mut any: u16 = 0;
+    let mut i: usize = 0;
+    while i < bytes.len() / 2 {
+        any = any | word(bytes, i);
+        i += 1;
+    }
+    any == 0
 }

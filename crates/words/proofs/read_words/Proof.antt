@@ -1,16 +1,16 @@
--- `read_each`: so far the first numbers are the first words. Assumes nothing.
+-- `read_words`: so far the first numbers are the first words. Assumes nothing.
 use Rattle.numbers.specs.Library.{_≤_, _-_, length, arith}
 use Rattle.image_form.specs.Bytes.{wordsOf}
 use Rattle.image_form.proofs.Words.{length-words}
 use Rattle.words.proofs.Over.{Over, over-none, over-next, over-all}
-use Rattle.words.proofs.read_each.Statement.{statement}
-use Rattle.words.proofs.read_each.Tie as tie
+use Rattle.words.proofs.read_words.Statement.{statement}
+use Rattle.words.proofs.read_words.Tie as tie
 
 abbrev Inv-loop : tie.InvT-loop
-Inv-loop numbers₀ bytes n i₀ numbers i = (i ≤ length numbers₀) × Over numbers₀ (wordsOf bytes) i numbers
+Inv-loop numbers₀ bytes i₀ numbers i = (i ≤ length numbers₀) × Over numbers₀ (wordsOf bytes) i numbers
 
 abbrev μ-loop : tie.MeasureT-loop
-μ-loop numbers₀ bytes n i₀ numbers i = length numbers₀ - i
+μ-loop numbers₀ bytes i₀ numbers i = length numbers₀ - i
 
 loop-holds : tie.Need-loop-holds Inv-loop μ-loop
 loop-holds c =
@@ -27,8 +27,8 @@ returns c =
     let turn = c .before in
     over-all (omega arith) (turn .loop .inv .1)
 
-pub read-each-spec : {M : Type 1} → statement M
-read-each-spec =
+pub read-words-spec : {M : Type 1} → statement M
+read-words-spec =
     tie.close
     (tie.spec
     Inv-loop
