@@ -19,10 +19,10 @@ pub enum Verdict {
 pub fn header_right(h: Header, shelves: &[u16], items: &[u16]) -> bool
     ensures { λ r. ⌜ Decides r (Rule1 h (now (shelves .entry)) (now (items .entry))) ⌝ }
 {
-    if shelf::shelf_capacity(shelves) < h.used_shelves {
+    if !shelf::has_shelves(shelves, h.used_shelves) {
         return false;
     }
-    if item::item_capacity(items) < h.used_items {
+    if !item::has_items(items, h.used_items) {
         return false;
     }
     limit_checks::within_limits(h.limits)
@@ -36,10 +36,10 @@ pub fn passes_for_clear(h: Header, shelves: &[u16], items: &[u16]) -> bool
         return false;
     }
     let columns = limit_checks::columns(h.limits);
-    if shelf::shelf_capacity(shelves) < columns {
+    if !shelf::has_shelves(shelves, columns) {
         return false;
     }
-    columns <= item::item_capacity(items)
+    item::has_items(items, columns)
 }
 
 // The rules after the first, one after another.

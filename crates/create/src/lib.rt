@@ -30,10 +30,10 @@ fn make_within(shelves: &mut [u16], items: &mut [u16], l: Limits) -> Created
     ensures { λ r. ⌜ MakesWithin (now (shelves .entry)) (now (items .entry)) r (now (shelves .exit)) (now (items .exit)) l ⌝ }
 {
     let n = limit_checks::columns(l);
-    if shelf::shelf_capacity(shelves) < n {
+    if !shelf::has_shelves(shelves, n) {
         return refused(refusal::TOO_FEW_ROWS);
     }
-    if item::item_capacity(items) < n {
+    if !item::has_items(items, n) {
         return refused(refusal::TOO_FEW_ROWS);
     }
     init::init(shelves, items, l, n);

@@ -1,6 +1,6 @@
 -- The promise of load from what the code has seen. Assumes nothing.
-use Rattle.numbers.specs.Library.{ℕ, _≤_, _<_, _≡_, refl, sym, ap, _∙_, Bool, true, false, not, List, length, getD, arith, leb, leb-true, le-leb}
-use Rattle.numbers.specs.Prelude.{Decides, refuted, denied}
+use Rattle.numbers.specs.Library.{ℕ, _≤_, _<_, _≡_, refl, sym, ap, _∙_, Bool, true, not, List, length, getD}
+use Rattle.numbers.specs.Prelude.{Decides, denied}
 use Rattle.rows.specs.Prelude.{rows, items, shelves}
 use Rattle.rows.specs.declared.header.Header.{Header}
 use Rattle.rules.specs.Prelude.{Passes, refused, gives, Judged}
@@ -13,18 +13,6 @@ use Rattle.image_sizes.specs.declared.Sizes.{Sizes}
 use Rattle.image_promises.specs.Promises.{HasRows, LoadedSo, Loads, wrong, few, copied}
 use Rattle.image_read.specs.Right.{headerIn, headerBlock, ImageRight, shelfNumbers, itemNumbers}
 use Rattle.image_read.proofs.Standing.{same-sizes, shelvesStanding, itemsStanding, right-holds, Stands, holds-stands}
-
--- ---- whether there are rows enough
-
-pub few-shelves : (h : Header) (S I : List ℕ) (room : ℕ) → room ≡ rows shelves S → room < h .«used_shelves» → Decides false (HasRows h S I)
-few-shelves h S I room e c = refuted (λ has. absurd (omega (arith, has .shelf-room)))
-
-pub rows-fit : (h : Header) (S I : List ℕ) (room item-room : ℕ) → room ≡ rows shelves S → h .«used_shelves» ≤ room → item-room ≡ rows items I
-    → Decides (leb (h .«used_items») item-room) (HasRows h S I)
-rows-fit h S I room item-room e c f = record {
-  sound = λ t. record { shelf-room = omega arith; item-room = omega (arith, leb-true (h .«used_items») item-room t) };
-  complete = λ has. le-leb (h .«used_items») item-room (omega (arith, has .item-room));
-}
 
 -- ---- 9, 7, and the rows copied
 

@@ -14,10 +14,10 @@ use rows::shelf;
 fn has_rows(h: Header, shelves: &[u16], items: &[u16]) -> bool
     ensures { λ r. ⌜ Decides r (HasRows h (now (shelves .entry)) (now (items .entry))) ⌝ }
 {
-    if shelf::shelf_capacity(shelves) < h.used_shelves {
+    if !shelf::has_shelves(shelves, h.used_shelves) {
         return false;
     }
-    h.used_items <= item::item_capacity(items)
+    item::has_items(items, h.used_items)
 }
 
 fn refused(number: u16) -> Replied

@@ -1,6 +1,6 @@
 -- What other files bring from the specs of `rows`, in one place. It states nothing of its own. Assumes nothing.
 pub use Rattle.rows.specs.Part.{each-all, sets-all}
-pub use Rattle.rows.specs.Row.{Shape, rows, rest, get, put, rows-are, rows-long, rows-few, rows-fit, fit-rows, length-put, rows-put, get-out, get-none}
+pub use Rattle.rows.specs.Row.{Shape, rows, rest, get, put, rows-are, rows-long, rows-few, rows-fit, fit-rows, has-rows, length-put, rows-put, get-out, get-none}
 pub use Rattle.rows.specs.Row.{get-short, get-there, get-part, put-none, put-short, put-part, put-there, get-put-same, get-put-other, rest-put, same-rows, put-put}
 pub use Rattle.rows.specs.Change.{change, change-is, length-change, rows-change, get-change-other, get-put-there, get-change-there, unseen}
 pub use Rattle.rows.specs.Past.{Past, past-same, past-put, past-change, past-more, past-then}

@@ -2,10 +2,10 @@
 -- The width is a variable throughout. Assumes nothing.
 use Rattle.numbers.specs.Library.{_≡_, refl, sym, ap, _∙_, subst, _≢_, _⊎_, inl, inr, ⊎-elim, List, [], _++_, append-assoc, ℕ, suc, _+_, _-_, _*_, _/_, _%_}
 use Rattle.numbers.specs.Library.{min, _≤_, _<_, suc-mul, mul-le-mul-right, div-add-mod', mod-lt, le-div-iff-mul-le, div-mul-le-self, decLt, ℕ-discrete, arith}
-use Rattle.numbers.specs.Library.{ltb, length, getD, take, drop, length-take, length-drop, lt-ltb, le-ltb}
+use Rattle.numbers.specs.Library.{leb, ltb, length, getD, take, drop, length-take, length-drop, lt-ltb, le-ltb, leb-true, le-leb}
 use native.Mathlib.Nat.{add-sub-cancel-left, min-le-left, min-le-right, le-min}
 use lib.Seq.{getD-drop, ext-getD, drop-drop}
-use Rattle.numbers.specs.Prelude.{noRow, mostRows, pick}
+use Rattle.numbers.specs.Prelude.{noRow, mostRows, pick, Decides}
 use Rattle.rows.specs.Part.{cut, splice, length-cut, getD-cut, length-splice, before, inside, after}
 
 -- How a value of A stands in a table: as a row of `width` numbers.
@@ -56,6 +56,14 @@ module _ {A : Type 0} (s : Shape A) where
   pub fit-rows : (l : List ℕ) (i : ℕ) → i < noRow → i * s .width + s .width ≤ length l → i < rows l
   unfolding rows
   fit-rows l i f h = le-min (le-div-iff-mul-le {k = s .width} {x = suc i} {y = length l} (s .some) .1 (rw suc-mul h)) f
+
+  -- whether a table has n rows
+  pub has-rows : (l : List ℕ) (n : ℕ) → n ≤ mostRows → Decides (leb (n * s .width) (length l)) (n ≤ rows l)
+  unfolding rows
+  has-rows l n few = record {
+    sound = λ t. le-min (le-div-iff-mul-le (s .some) .1 (leb-true (n * s .width) (length l) t)) few;
+    complete = λ h. le-leb (n * s .width) (length l) (le-div-iff-mul-le (s .some) .0 (omega (arith, min-le-left (length l / s .width) mostRows)));
+  }
 
   pub unfit-rows : (l : List ℕ) (i : ℕ) → length l < i * s .width + s .width → rows l ≤ i
   unfit-rows l i h = go (decLt i (rows l)) where

@@ -1,7 +1,8 @@
 // The rows of the item table, as values.
 ghost use mathlib.Core.Path.{_≡_};
 ghost use lib.ListN.{length};
-ghost use Prim.Native.Nat.{_+_, _*_, _<_};
+ghost use Prim.Native.Nat.{_+_, _*_, _<_, _≤_};
+ghost use Rattle.numbers.specs.Prelude.{Decides};
 ghost use Rattle.rows.specs.Item.{zeroItem, numbersOf, itemOf, itemStart, itemCapacity, itemAt, putItem};
 ghost use Rattle.rows.specs.Links.{Below};
 use numbers::index::ItemIndex;
@@ -93,6 +94,13 @@ pub fn item_capacity(items: &[u16]) -> u16
         return MOST_ROWS;
     }
     n as u16
+}
+
+// Whether a table has n rows. Nothing is divided, as it is for the capacity.
+pub fn has_items(items: &[u16], n: u16) -> bool
+    ensures { λ r. ⌜ Decides r (n ≤ itemCapacity (now (items .entry))) ⌝ }
+{
+    n as usize * NUMBERS <= items.len()
 }
 
 // Where the numbers of a row begin. A walk keeps it beside the index, so that it is worked out once for each row.

@@ -1,7 +1,8 @@
 // The rows of the shelf table, as values.
 ghost use mathlib.Core.Path.{_≡_};
 ghost use lib.ListN.{length};
-ghost use Prim.Native.Nat.{_<_};
+ghost use Prim.Native.Nat.{_<_, _≤_};
+ghost use Rattle.numbers.specs.Prelude.{Decides};
 ghost use Rattle.rows.specs.Shelf.{zeroShelf, numbersOf, shelfOf, shelfCapacity, shelfAt, putShelf};
 use numbers::index::ItemIndex;
 use numbers::index::MOST_ROWS;
@@ -79,6 +80,13 @@ pub fn shelf_capacity(shelves: &[u16]) -> u16
         return MOST_ROWS;
     }
     n as u16
+}
+
+// Whether a table has n rows. Nothing is divided, as it is for the capacity.
+pub fn has_shelves(shelves: &[u16], n: u16) -> bool
+    ensures { λ r. ⌜ Decides r (n ≤ shelfCapacity (now (shelves .entry))) ⌝ }
+{
+    n as usize * NUMBERS <= shelves.len()
 }
 
 // The row at an index that the table has: its length is not tested.

@@ -1,25 +1,24 @@
 -- `header_right`: the capacities, then the limits. Assumes nothing.
-use Rattle.numbers.specs.Library.{arith}
-use Rattle.numbers.specs.Prelude.{refuted}
+use Rattle.numbers.specs.Prelude.{refuted, denied, allowed}
 use Rattle.audit.proofs.header_right.Statement.{statement}
 use Rattle.audit.proofs.header_right.Tie as tie
 
 few-shelves : tie.Need-returns
-few-shelves c = refuted (λ o. omega (arith, c .before .before .shelf-capacity .ensures, o .shelves-fit))
+few-shelves c = refuted (λ o. denied (c .before .has-shelves .ensures) (c .if1 .taken) (o .shelves-fit))
 
 few-items : tie.Need-returns-2
-few-items c = refuted (λ o. omega (arith, c .before .before .item-capacity .ensures, o .items-fit))
+few-items c = refuted (λ o. denied (c .before .has-items .ensures) (c .if2 .taken) (o .items-fit))
 
 within : tie.Need-returns-3
 within c =
     let limits-told = c .within-limits .ensures in
     let items-tested = c .before in
-    let shelves-tested = items-tested .before .before .before in
+    let shelves-tested = items-tested .before .before in
     record {
       sound = λ e. record {
         limits = limits-told .sound e;
-        shelves-fit = omega (arith, shelves-tested .before .before .shelf-capacity .ensures, shelves-tested .if1 .left);
-        items-fit = omega (arith, items-tested .before .before .item-capacity .ensures, items-tested .if2 .left);
+        shelves-fit = allowed (shelves-tested .before .has-shelves .ensures) (shelves-tested .if1 .left);
+        items-fit = allowed (items-tested .before .has-items .ensures) (items-tested .if2 .left);
       };
       complete = λ o. limits-told .complete (o .limits);
     }

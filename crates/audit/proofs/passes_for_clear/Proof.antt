@@ -1,5 +1,5 @@
 -- `passes_for_clear`: rule 1, then a row for each column in each table. Assumes nothing.
-use Rattle.numbers.specs.Library.{arith, leb-true, le-leb}
+use Rattle.numbers.specs.Library.{arith}
 use Rattle.numbers.specs.Prelude.{refuted, denied, allowed}
 use Rattle.audit.proofs.passes_for_clear.Statement.{statement}
 use Rattle.audit.proofs.passes_for_clear.Tie as tie
@@ -8,7 +8,7 @@ no-header : tie.Need-returns
 no-header c = refuted (λ o. denied (c .before .header-right .ensures) (c .if1 .taken) (o .rule1))
 
 few-shelf-rows : tie.Need-returns-2
-few-shelf-rows c = refuted (λ o. omega (arith, c .before .shelf-capacity .ensures, c .before .before .columns .ensures, o .shelf-room))
+few-shelf-rows c = refuted (λ o. denied (c .before .has-shelves .ensures) (c .if2 .taken) (omega (arith, c .before .before .columns .ensures, o .shelf-room)))
 
 item-rows : tie.Need-returns-3
 item-rows c =
@@ -18,10 +18,10 @@ item-rows c =
     record {
       sound = λ e. record {
         rule1 = allowed (rule1-tested .before .header-right .ensures) (rule1-tested .if1 .left);
-        shelf-room = omega (arith, count, c .before .before .shelf-capacity .ensures, c .before .if2 .left);
-        item-room = omega (arith, count, c .item-capacity .ensures, leb-true (at-columns .columns .result) (c .item-capacity .result) e);
+        shelf-room = omega (arith, count, allowed (c .before .before .has-shelves .ensures) (c .before .if2 .left));
+        item-room = omega (arith, count, c .has-items .ensures .sound e);
       };
-      complete = λ o. le-leb (at-columns .columns .result) (c .item-capacity .result) (omega (arith, count, c .item-capacity .ensures, o .item-room));
+      complete = λ o. c .has-items .ensures .complete (omega (arith, count, o .item-room));
     }
 
 pub passes-for-clear-spec : {M : Type 1} → statement M

@@ -1,5 +1,6 @@
 -- `make_within`: 7 where either table has fewer than C rows, else a fresh atlas. Assumes nothing.
 use Rattle.numbers.specs.Library.{arith, needs}
+use Rattle.numbers.specs.Prelude.{denied, allowed}
 use Rattle.create.proofs.Cases.{few-shelves, few-items, made-fresh}
 use Rattle.create.proofs.make_within.Statement.{statement}
 use Rattle.create.proofs.make_within.Tie as tie
@@ -13,13 +14,13 @@ make-within-spec =
     (λ c κs. tt)
     (λ c. search needs)
     (λ c. let s = c .before .before in let n = s .before .before in
-    few-shelves _ _ _ _ (n .columns .ensures) _ (c .refused .ensures) (omega (arith, s .shelf-capacity .ensures, c .before .if1 .taken)))
+    few-shelves _ _ _ _ (n .columns .ensures) _ (c .refused .ensures) (omega (arith, denied (s .has-shelves .ensures) (c .before .if1 .taken))))
     (λ c κs. tt)
     (λ c κs. tt)
     (λ c. search needs)
     (λ c. search needs)
     (λ c. let i = c .before .before in let n = i .before .before .before .before .before in
-    few-items _ _ _ _ (n .columns .ensures) _ (c .refused2 .ensures) (omega (arith, i .item-capacity .ensures, c .before .if2 .taken)))
+    few-items _ _ _ _ (n .columns .ensures) _ (c .refused2 .ensures) (omega (arith, denied (i .has-items .ensures) (c .before .if2 .taken))))
     (λ c κs. tt)
     (λ c κs. tt)
     (λ c. search needs)
@@ -28,5 +29,5 @@ make-within-spec =
     let i = m .before .before .before in
     let s = i .before .before .before in
     let n = s .before .before .before in
-    made-fresh _ _ _ _ (n .columns .ensures) _ _ _ (omega (arith, s .before .shelf-capacity .ensures, s .if1 .left)) (omega (arith, i .before .item-capacity .ensures, i .if2 .left))
+    made-fresh _ _ _ _ (n .columns .ensures) _ _ _ (allowed (s .before .has-shelves .ensures) (s .if1 .left)) (allowed (i .before .has-items .ensures) (i .if2 .left))
     (c .fresh-header .ensures) (m .init .ensures .0) (m .init .ensures .1)))
