@@ -67,11 +67,14 @@ fn one_right(image: &[u8], k: Layout, first: usize, b: usize, rows: usize) -> bo
     )
 }
 
-// Whether the blocks that are full are right. All their sizes are known when this is compiled, which is faster.
+// Whether the blocks that are full are right. Their sizes are the same, and worked out once; where no block is full, not at all.
 fn full_right(image: &[u8], k: Layout, first: usize, full: usize) -> bool
     requires { ⌜ Laid k first (full * k .most) full × (full * 512 ≤ length (now image)) ⌝ }
     ensures { λ r. ⌜ Decides r (AllRight k (full * k .most) first full (wordsOf (now (image .entry)))) ⌝ }
 {
+    if full == 0 {
+        return true;
+    }
     let mut b: usize = 0;
     while b < full {
         let right = one_right(image, k, first, b, k.most);
