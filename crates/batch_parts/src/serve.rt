@@ -104,16 +104,16 @@ fn serve_other(h: Header, shelves: &[u16], items: &[u16], q: Asking) -> Told
     number(refusal::NOT_READABLE)
 }
 
-// The request's own call.
+// The request's own call. A release is told first, since that takes two instructions less a request (measured).
 pub fn serve(h: Header, shelves: &mut [u16], items: &mut [u16], q: Asking) -> Served
     requires { ⌜ Passes h (now shelves) (now items) ⌝ }
     ensures { λ r. ⌜ ServesOne h (now (shelves .entry)) (now (items .entry)) q r (now (shelves .exit)) (now (items .exit)) ⌝ }
 {
-    if q.kind == ALLOCATE {
-        return serve_allocate(h, shelves, items, q.first, q.second);
-    }
     if q.kind == RELEASE {
         return serve_release(h, shelves, items, q.first, q.second);
+    }
+    if q.kind == ALLOCATE {
+        return serve_allocate(h, shelves, items, q.first, q.second);
     }
     Served {
         told: serve_other(h, shelves, items, q),
