@@ -1,6 +1,7 @@
 -- The changes of a chain at one place, over any kind: an element inserted after another, merged into the one before it, taken out, put in another's
 -- place. Each asks what the table says afterwards of the rows that it touches, and that it says the same of all others. Assumes nothing.
-use Rattle.numbers.specs.Library.{ℕ, ◌≡◌, refl, sym, ◌≢◌, ◌⊎◌, inl, inr, ⊎_elim, List, [], ◌∷◌, ◌++◌, List·Memᴰ·head, List·Memᴰ·tail, List·Memᴰ·cases-cons}
+use Rattle.std.specs.Prelude.{◌≡◌, ◌≢◌, ◌⊎◌, ◌∷◌, ◌++◌}
+use Rattle.numbers.specs.Library.{ℕ, refl, sym, inl, inr, ⊎_elim, List, [], List·Memᴰ·head, List·Memᴰ·tail, List·Memᴰ·cases-cons}
 use Rattle.numbers.specs.Library.{List·Memᴰ·append-cases, Memᴰ·cast, Memᴰ·append-left, Memᴰ·append-right}
 use Rattle.numbers.specs.Prelude.{no_row}
 use Rattle.chains.specs.Prelude.{Kind, first_row, Chain, ◌∈◌, Distinct, gather, back_onto}

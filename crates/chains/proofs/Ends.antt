@@ -1,6 +1,7 @@
 -- A chain that ends: its rows are the only ones that lead from its first row to no row, they are distinct, and a walk of as many steps as
 -- there are used rows meets them all. So a walk needs no marks, and no links back. Assumes nothing.
-use Rattle.numbers.specs.Library.{◌≡◌, refl, sym, ap, ◌∙◌, ◌≢◌, ⊎_elim, List, [], ◌∷◌, List-as-Memᴰ, List·Memᴰ·not-nil, List·Memᴰ·cases-cons, ℕ, zero, suc, ◌≤◌, ◌<◌}
+use Rattle.std.specs.Prelude.{◌≡◌, ◌≢◌, ◌∷◌, ◌≤◌, ◌<◌}
+use Rattle.numbers.specs.Library.{refl, sym, ap, ◌∙◌, ⊎_elim, List, [], List-as-Memᴰ, List·Memᴰ·not-nil, List·Memᴰ·cases-cons, ℕ, zero, suc}
 use Rattle.numbers.specs.Library.{arith, ne_eqb, length}
 use Rattle.numbers.specs.Prelude.{no_row}
 use Rattle.chains.specs.Prelude.{Distinct, first_of, rows_from, Ends, EndsFrom}

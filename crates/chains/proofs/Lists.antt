@@ -1,7 +1,8 @@
 -- Lists of distinct numbers: one that lies within another is no longer than it; of numbers below `n` there are at most `n`, and where
 -- there are `n`, every number below `n` is among them. Assumes nothing.
-use Rattle.numbers.specs.Library.{◌≡◌, refl, sym, ap, ◌∙◌, ◌≢◌, ⊎_elim, List, [], ◌∷◌, ◌++◌, List-as-Memᴰ, List·Memᴰ·head, List·Memᴰ·tail, List·Memᴰ·not-nil}
-use Rattle.numbers.specs.Library.{List·Memᴰ·cases-cons, List·Memᴰ·append-cases, Memᴰ·cast, Memᴰ·append-left, Memᴰ·append-right, ℕ, zero, suc, ◌≤◌, ◌<◌}
+use Rattle.std.specs.Prelude.{◌≡◌, ◌≢◌, ◌∷◌, ◌++◌, ◌≤◌, ◌<◌}
+use Rattle.numbers.specs.Library.{refl, sym, ap, ◌∙◌, ⊎_elim, List, [], List-as-Memᴰ, List·Memᴰ·head, List·Memᴰ·tail, List·Memᴰ·not-nil}
+use Rattle.numbers.specs.Library.{List·Memᴰ·cases-cons, List·Memᴰ·append-cases, Memᴰ·cast, Memᴰ·append-left, Memᴰ·append-right, ℕ, zero, suc}
 use Rattle.numbers.specs.Library.{ℕ_discrete, arith, length}
 use Prim.Native.Nat.{zero-le}
 use native.Mathlib.Nat.{not-suc-le-zero}

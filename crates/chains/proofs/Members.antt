@@ -1,6 +1,7 @@
 -- Rows of lists: what each of them has, rows gathered from rows, and used rows that each serve once. Assumes nothing.
-use Rattle.numbers.specs.Library.{◌≡◌, refl, sym, ◌∙◌, ⊎_elim, List, [], ◌∷◌, ◌++◌, List·Memᴰ·head, List·Memᴰ·tail, List·Memᴰ·not-nil, List·Memᴰ·cases-cons}
-use Rattle.numbers.specs.Library.{List·Memᴰ·append-cases, Memᴰ·cast, Memᴰ·append-left, Memᴰ·append-right, ℕ, ◌+◌, ◌≤◌, ◌<◌, arith, length, length-append}
+use Rattle.std.specs.Prelude.{◌≡◌, ◌∷◌, ◌++◌, ◌+◌, ◌≤◌, ◌<◌}
+use Rattle.numbers.specs.Library.{refl, sym, ◌∙◌, ⊎_elim, List, [], List·Memᴰ·head, List·Memᴰ·tail, List·Memᴰ·not-nil, List·Memᴰ·cases-cons}
+use Rattle.numbers.specs.Library.{List·Memᴰ·append-cases, Memᴰ·cast, Memᴰ·append-left, Memᴰ·append-right, ℕ, arith, length, length-append}
 use Rattle.chains.specs.Prelude.{◌∈◌, Distinct, Each, gather}
 use Rattle.chains.proofs.Lists.{dec_memᴰ, distinct_append, distinct_all, distinct_below, covers_length}
 

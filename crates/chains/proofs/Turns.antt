@@ -1,6 +1,7 @@
 -- Loops along a chain, turn by turn: one that decides whether a rule holds along it (`Deciding`), one that asks something of each row by itself
 -- (`Eaching`), and one that counts its steps down (`Lasting`). Assumes nothing.
-use Rattle.numbers.specs.Library.{◌≡◌, refl, ◌≢◌, [], ◌∷◌, ℕ, zero, suc, ◌+◌, ◌-◌, ◌≤◌, ◌<◌, arith, eq-eqb, ne_eqb, length}
+use Rattle.std.specs.Prelude.{◌≡◌, ◌≢◌, ◌∷◌, ◌+◌, ◌-◌, ◌≤◌, ◌<◌}
+use Rattle.numbers.specs.Library.{refl, [], ℕ, zero, suc, arith, eq-eqb, ne_eqb, length}
 use Rattle.numbers.specs.Prelude.{no_row}
 use Rattle.chains.specs.Prelude.{Each, rows_from, Walk}
 use Rattle.chains.proofs.Walks.{Rest, Step, step, unstep, end, unend, start, unstart}

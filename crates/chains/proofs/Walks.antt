@@ -1,8 +1,9 @@
 -- The proof of a loop along a chain, once for all of them: a loop that carries a state along unchecked links decides whether a rule holds along them.
 -- `Rest` says what has still to hold, from the row that the loop has come to; `step` and `unstep` are one turn, `end` and `unend` the loop's end.
 -- Then what follows from a rule along a chain, and that nothing but the used rows is read. Assumes nothing.
-use Rattle.numbers.specs.Library.{◌≡◌, refl, sym, ap, ◌∙◌, ◌≢◌, ⊎_elim, List, [], ◌∷◌, List·Memᴰ·head, List·Memᴰ·tail, List·Memᴰ·not-nil, List·Memᴰ·cases-cons}
-use Rattle.numbers.specs.Library.{ℕ, ◌-◌, ◌≤◌, ◌<◌, arith, length}
+use Rattle.std.specs.Prelude.{◌≡◌, ◌≢◌, ◌∷◌, ◌-◌, ◌≤◌, ◌<◌}
+use Rattle.numbers.specs.Library.{refl, sym, ap, ◌∙◌, ⊎_elim, List, [], List·Memᴰ·head, List·Memᴰ·tail, List·Memᴰ·not-nil, List·Memᴰ·cases-cons}
+use Rattle.numbers.specs.Library.{ℕ, arith, length}
 use Rattle.numbers.specs.Prelude.{no_row}
 use Rattle.chains.specs.Prelude.{◌∈◌, first_of, rows_from, Ends, Holds, Walk}
 use Rattle.chains.proofs.Ends.{ends_rows, ends_length}

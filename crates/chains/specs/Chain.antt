@@ -1,6 +1,7 @@
 -- How the elements of a list lie in a table along a chain: each has a row, and what stands in that row names the row before and the row after.
 -- One definition for the shelf chain, a shelf's items, a shelf's free list and the two chains of freed rows. Assumes nothing.
-use Rattle.numbers.specs.Library.{ℕ, ◌≡◌, List, [], ◌∷◌}
+use Rattle.std.specs.Prelude.{◌≡◌, ◌∷◌}
+use Rattle.numbers.specs.Library.{ℕ, List, []}
 use Rattle.numbers.specs.Prelude.{no_row}
 
 -- the row of an element, and what that row says of it between the row before and the row after

@@ -1,5 +1,6 @@
 -- Lists of rows and of what lies in them: membership, distinctness, a place in a list. Assumes nothing.
-use Rattle.numbers.specs.Library.{ℕ, List, [], ◌∷◌, ◌++◌, List-as-Memᴰ}
+use Rattle.std.specs.Prelude.{◌∷◌, ◌++◌}
+use Rattle.numbers.specs.Library.{ℕ, List, [], List-as-Memᴰ}
 
 abbrev pub ◌∈◌ : ℕ → List ℕ → Type 0
 r ∈ rows = List-as-Memᴰ r rows

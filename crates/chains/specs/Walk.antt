@@ -1,6 +1,7 @@
 -- Walks along links that nobody has checked yet: the rows that are met, and what it is for them to be a chain along which a rule holds.
 -- Assumes nothing.
-use Rattle.numbers.specs.Library.{ℕ, zero, suc, ◌<◌, ◌≡◌, List, [], ◌∷◌, eqb}
+use Rattle.std.specs.Prelude.{◌<◌, ◌≡◌, ◌∷◌}
+use Rattle.numbers.specs.Library.{ℕ, zero, suc, List, [], eqb}
 use Rattle.numbers.specs.Prelude.{pick, no_row}
 use Rattle.chains.specs.Chain.{first_of}
 

@@ -1,1 +1,2 @@
 // The theory of chains has no code.
+#![tactic(auto)]

@@ -1,4 +1,6 @@
 // Create's numbers, and the limits that every header keeps.
+#![tactic(auto)]
+
 ghost use Rattle.std.specs.Prelude.{◌≡◌};
 ghost use Rattle.numbers.specs.Decides.{Decides};
 ghost use Rattle.numbers.specs.Limits.{sizes_good, options_good, shelf_width_good, along_step, WithinLimits, shelf_width_of, limits_for, judged_limits};

@@ -1,6 +1,7 @@
 -- The rule of any table of bands, rows of a last depth and a step: walked row by row it gives the first band that reaches a depth,
 -- or the last one. At our table that is the rule of the document.
-use Rattle.numbers.specs.Library.{ℕ, suc, ◌+◌, ◌<◌, ◌≤◌, ◌≡◌, refl, Bool, true, false, List, [], ◌∷◌, add-one, arith, leb, get_or, drop, length, drop-cons}
+use Rattle.std.specs.Prelude.{◌+◌, ◌<◌, ◌≤◌, ◌≡◌, ◌∷◌}
+use Rattle.numbers.specs.Library.{ℕ, suc, refl, Bool, true, false, List, [], add-one, arith, leb, get_or, drop, length, drop-cons}
 use Rattle.numbers.specs.Library.{le-leb, lt-leb}
 use Rattle.numbers.specs.Prelude.{pick, depth_band, depth_step}
 

@@ -1,2 +1,3 @@
 pub mod BandTable
 pub mod Signed
+pub mod Placing

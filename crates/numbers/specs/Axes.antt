@@ -1,6 +1,7 @@
 -- The two axes: along the shelves, and deep across them. Without vertical shelves along is x; "with them x and y change places on the way in
 -- and out". Assumes nothing.
-use Rattle.numbers.specs.Library.{ℕ, ◌≡◌, refl, Bool, true, false, eqb}
+use Rattle.std.specs.Prelude.{◌≡◌}
+use Rattle.numbers.specs.Library.{ℕ, refl, Bool, true, false, eqb}
 use Rattle.numbers.specs.Pick.{pick}
 
 -- on the way in, of x and y the number along the shelves; on the way out, of along and deep the number for x

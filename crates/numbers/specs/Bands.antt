@@ -1,5 +1,6 @@
 -- The step of a depth, and the depth of a shelf made for it. Assumes nothing.
-use Rattle.numbers.specs.Library.{ℕ, ◌<◌, ◌≤◌, ◌≡◌, refl, Bool, true, false, arith, dec_lt, leb, lit<, le-leb, lt-leb}
+use Rattle.std.specs.Prelude.{◌<◌, ◌≤◌, ◌≡◌}
+use Rattle.numbers.specs.Library.{ℕ, refl, Bool, true, false, arith, dec_lt, leb, lit<, le-leb, lt-leb}
 use Rattle.std.proofs.Common.{lit≤}
 use Rattle.numbers.specs.Pick.{pick, pick_yes, pick_no}
 use Rattle.numbers.specs.Round.{round_up, rounds_up}

@@ -1,5 +1,6 @@
 -- What create accepts is within the limits. Assumes nothing.
-use Rattle.numbers.specs.Library.{ℕ, ◌*◌, ◌-◌, ◌/◌, ◌%◌, ◌≡◌, refl, Bool, true, false, ◌&&◌, div-add-mod', arith, leb, ℤ, leb-true}
+use Rattle.std.specs.Prelude.{◌*◌, ◌-◌, ◌/◌, ◌%◌, ◌≡◌, ◌&&◌}
+use Rattle.numbers.specs.Library.{ℕ, refl, Bool, true, false, div-add-mod', arith, leb, ℤ, leb-true}
 use Rattle.std.proofs.Math.Nat.{mul-mod_left}
 use Rattle.numbers.specs.declared.limits.Limits.{Limits}
 use Rattle.numbers.specs.declared.limits.Limited.TheVariants.{Within, Refused}

@@ -1,5 +1,6 @@
 -- A test that says whether something holds, and what a branch on one tells. Assumes nothing.
-use Rattle.numbers.specs.Library.{◌≡◌, refl, sym, Bool, true, false, not, false≢true}
+use Rattle.std.specs.Prelude.{◌≡◌}
+use Rattle.numbers.specs.Library.{refl, sym, Bool, true, false, not, false≢true}
 
 -- the test says whether A holds
 pub record Decides (test : Bool) (A : Type 0) : Type 0 where

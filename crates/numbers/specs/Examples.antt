@@ -1,5 +1,6 @@
 -- The examples that document 01 marks to be proved: one table, one statement. Assumes nothing.
-use Rattle.numbers.specs.Library.{ℕ, ◌-◌, ◌≡◌, refl, List, [], ◌∷◌, map, ltb}
+use Rattle.std.specs.Prelude.{◌-◌, ◌≡◌, ◌∷◌}
+use Rattle.numbers.specs.Library.{ℕ, refl, List, [], map, ltb}
 use Rattle.numbers.specs.Pick.{pick}
 use Rattle.numbers.specs.Round.{round_up}
 use Rattle.numbers.specs.Bands.{depth_step, shelf_height}

@@ -1,5 +1,6 @@
 -- When a place is split, and when a shelf in use is a bad fit. Assumes nothing.
-use Rattle.numbers.specs.Library.{ℕ, ◌+◌, ◌/◌, min, Bool, ltb}
+use Rattle.std.specs.Prelude.{◌+◌, ◌/◌}
+use Rattle.numbers.specs.Library.{ℕ, min, Bool, ltb}
 
 -- a place more than 8 larger than what is asked is split: a shelf by its depth, an item by its width
 abbrev pub large_enough_to_split : ℕ → ℕ → Bool

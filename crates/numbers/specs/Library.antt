@@ -1,5 +1,5 @@
 -- What the crates bring from the toolchain's libraries, in one place. It states nothing of its own. Assumes nothing.
-pub use Rattle.std.specs.Prelude.{◌%◌, ◌*◌, ◌+◌, ◌-◌, ◌/◌, ◌<◌, ◌^◌, ◌≤◌, min, suc, zero, ℕ, eqb, leb, ltb, negsuc, neg_ℤ, pos, ℤ, drop, get_or, length, set, take, Bool, ◌&&◌, ◌||◌, false, not, true, [], ◌++◌, ◌∷◌, map, ◌≢◌, ◌⊎◌, ◌≡◌, refl}
+pub use Rattle.std.specs.Prelude.{min, suc, zero, ℕ, eqb, leb, ltb, negsuc, neg_ℤ, pos, ℤ, drop, get_or, length, set, take, Bool, false, not, true, [], map, refl}
 pub use Rattle.std.proofs.Common.{rules, eq-eqb, eqb-true, le-leb, le-ltb, leb-true, lt-ltb, ltb-false, ltb-true, ne_eqb, lit<, length-append, length-drop, length-set, length-take, drop-cons, length-take-le, take_all, take-suc, append_assoc, append-nil, inl, inr, ⊎_elim, ◌∙◌, ap, subst, sym, to_z-of_z, SFits, of_z, to_z, add-mul, div-add-mod', div-mul-le_self, le-div_iff_mul-le, mod-lt, mul-le-mul, mul-le-mul_right, suc-mul, add-one, arith}
 pub use Rattle.std.proofs.lemmas.Bool.{lt-leb, not-false, not-true, false≢true}
 pub use Rattle.std.specs.Int.Signed.{lt_z}

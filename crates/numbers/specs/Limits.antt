@@ -1,5 +1,6 @@
 -- The limits of an atlas: what create accepts, and what every header keeps. Assumes nothing.
-use Rattle.numbers.specs.Library.{ℕ, ◌*◌, ◌-◌, ◌/◌, ◌%◌, ◌<◌, ◌≤◌, ◌≡◌, ◌∙◌, Bool, true, false, ◌&&◌, div-mul-le_self, le-div_iff_mul-le, arith, leb, eqb}
+use Rattle.std.specs.Prelude.{◌*◌, ◌-◌, ◌/◌, ◌%◌, ◌<◌, ◌≤◌, ◌≡◌, ◌&&◌}
+use Rattle.numbers.specs.Library.{ℕ, ◌∙◌, Bool, true, false, div-mul-le_self, le-div_iff_mul-le, arith, leb, eqb}
 use Rattle.numbers.specs.Library.{ℤ, leb-true, le-leb, lt-leb, eqb-true, eq-eqb}
 use Rattle.std.proofs.Common.{div-le_self}
 use Rattle.numbers.specs.declared.{limits.Limits.Limits, limits.Limited.Limited}

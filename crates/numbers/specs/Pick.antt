@@ -1,5 +1,6 @@
 -- A choice by a test. Assumes nothing.
-use Rattle.numbers.specs.Library.{◌≡◌, refl, Bool, true, false}
+use Rattle.std.specs.Prelude.{◌≡◌}
+use Rattle.numbers.specs.Library.{refl, Bool, true, false}
 
 -- the first where the test holds, else the second
 abbrev pub pick {ℓ} : {X : Type ℓ} → Bool → X → X → X

@@ -18,4 +18,4 @@ pub use Rattle.numbers.specs.Limits.{no_columns, no_shelf_width, accepted}
 unfoldable pub use Rattle.numbers.specs.Limits.{sizes_good, options_good, shelf_width_of, shelf_width_good, columns_of, columns, space_left, along_step, limits_for}
 unfoldable pub use Rattle.numbers.specs.Limits.{create_numbers}
 pub use Rattle.numbers.specs.Created.{created_within}
-pub use Rattle.numbers.specs.Placeable.{Placeable, asked_placeable}
+pub use Rattle.numbers.specs.Placeable.{Placeable}

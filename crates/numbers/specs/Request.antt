@@ -1,5 +1,6 @@
 -- A request as an allocator takes it up: its sides aligned, judged and rounded. Assumes nothing.
-use Rattle.numbers.specs.Library.{ℕ, ◌<◌, ◌≤◌, ◌≡◌, refl, ◌&&◌, and-false, leb, le-leb, lt-leb, ℤ}
+use Rattle.std.specs.Prelude.{◌<◌, ◌≤◌, ◌≡◌, ◌&&◌}
+use Rattle.numbers.specs.Library.{ℕ, refl, and-false, leb, le-leb, lt-leb, ℤ}
 use Rattle.numbers.specs.declared.{sides.Side.Side, limits.Limits.Limits, request.Request.Request}
 use Rattle.numbers.specs.declared.sides.Side.TheVariants.{Fits, Bad}
 use Rattle.numbers.specs.declared.request.Request.TheVariants.{Good, Refused}

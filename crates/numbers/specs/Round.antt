@@ -1,5 +1,6 @@
 -- A number rounded up to a multiple of a step, and the law of it for any step of at least 1. Assumes nothing.
-use Rattle.numbers.specs.Library.{ℕ, suc, ◌+◌, ◌-◌, ◌*◌, ◌/◌, ◌%◌, ◌<◌, ◌≤◌, ◌≡◌, mod-lt, div-add-mod', suc-mul, mul-le-mul_right, ℕ_discrete, dec_lt}
+use Rattle.std.specs.Prelude.{◌+◌, ◌-◌, ◌*◌, ◌/◌, ◌%◌, ◌<◌, ◌≤◌, ◌≡◌}
+use Rattle.numbers.specs.Library.{ℕ, suc, mod-lt, div-add-mod', suc-mul, mul-le-mul_right, ℕ_discrete, dec_lt}
 use Rattle.numbers.specs.Library.{arith, eqb, eq-eqb, ne_eqb}
 use Rattle.std.proofs.Math.Nat.{mul-mod_left}
 use Rattle.std.proofs.Common.{div-lt_iff_lt-mul}

@@ -1,7 +1,7 @@
 -- Raw numbers, as a caller gives them, and the limits that they are judged by. Assumes nothing.
-use Rattle.numbers.specs.Library.{ℕ, min, ◌≤◌, ◌≡◌, refl, sym, Bool, true, false, ◌&&◌, false≢true, arith, leb, ℤ, pos, negsuc, lt_z, ltb-true, leb-true}
+use Rattle.numbers.specs.Library.{ℕ, min, refl, sym, Bool, true, false, false≢true, arith, leb, ℤ, pos, negsuc, lt_z, ltb-true, leb-true}
 use Rattle.numbers.specs.Library.{le-leb}
-use Rattle.std.specs.Prelude.{T, nat_abs}
+use Rattle.std.specs.Prelude.{◌≤◌, ◌≡◌, ◌&&◌, T, nat_abs}
 use Rattle.std.specs.Int.Signed.{non_neg}
 use Rattle.numbers.specs.declared.sides.Side.{Side}
 use Rattle.numbers.specs.declared.sides.Side.TheVariants.{Fits, Bad}

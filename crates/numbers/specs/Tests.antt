@@ -1,5 +1,6 @@
 -- Tests one after another, as code takes them: it leaves at the first that fails. Assumes nothing.
-use Rattle.numbers.specs.Library.{◌≡◌, refl, Bool, true, false, not, ◌&&◌, false≢true}
+use Rattle.std.specs.Prelude.{◌≡◌, ◌&&◌}
+use Rattle.numbers.specs.Library.{refl, Bool, true, false, not, false≢true}
 use Rattle.std.proofs.Common.{true≢false}
 
 -- both of two tests that hold together

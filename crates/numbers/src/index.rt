@@ -9,7 +9,7 @@ pub const NO_ROW: u16 = 65535;
 pub const MOST_ROWS: u16 = NO_ROW;
 
 // A row of the shelf table, or none.
-#[derive(Drop)]
+#[derive(Clone, Copy)]
 pub struct ShelfIndex(pub u16);
 
 impl ShelfIndex {
@@ -35,7 +35,7 @@ impl ShelfIndex {
 }
 
 // A row of the item table, or none.
-#[derive(Drop)]
+#[derive(Clone, Copy)]
 pub struct ItemIndex(pub u16);
 
 impl ItemIndex {

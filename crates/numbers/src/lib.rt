@@ -1,4 +1,6 @@
 // The numbers of document 01: indices, roundings, limits and thresholds. No table is read here.
+#![tactic(auto)]
+
 pub mod axes;
 pub mod bands;
 pub mod fit;

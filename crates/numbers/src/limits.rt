@@ -1,7 +1,7 @@
 // What create fixes of an atlas. The limits themselves are tested in the crate `limits`.
 
 // The first six numbers of a header: what create fixes and no call changes.
-#[derive(Drop)]
+#[derive(Clone, Copy)]
 pub struct Limits {
     // W, the size along the shelves, and H, the size across them.
     pub width: u16,
@@ -14,7 +14,7 @@ pub struct Limits {
 }
 
 // Create's numbers: within the limits, or answer 1 or 2.
-#[derive(Drop)]
+#[derive(Clone, Copy)]
 pub enum Limited {
     Within(Limits),
     Refused(u16),

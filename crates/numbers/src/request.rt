@@ -10,14 +10,14 @@ use crate::round::adjust_size;
 use crate::sides::{Side, side_of};
 
 // The aligned width along the shelves, and D; `aligned` is the depth before it is rounded up to its step.
-#[derive(Drop)]
+#[derive(Clone, Copy)]
 pub struct Asked {
     pub width: u16,
     pub depth: u16,
     pub aligned: u16,
 }
 
-#[derive(Drop)]
+#[derive(Clone, Copy)]
 pub enum Request {
     Good(Asked),
     Refused(u16),

@@ -5,7 +5,7 @@ ghost use Rattle.numbers.specs.Sides.{one_to, natural, flag_of, side_of};
 // The greatest side of an atlas or of a request, and the greatest alignment.
 pub const MOST_SIDE: u32 = 65535;
 
-#[derive(Drop)]
+#[derive(Clone, Copy)]
 pub enum Side {
     Fits(u16),
     Bad,

@@ -1,6 +1,7 @@
 -- Rows taken into use and given back. The freed rows of a table are a chain by `next`, the latest freed first; the header holds its head.
 -- Assumes nothing.
-use Rattle.numbers.specs.Library.{◌≡◌, List, ℕ, ◌+◌, ◌%◌, ◌^◌, eqb}
+use Rattle.std.specs.Prelude.{◌≡◌, ◌+◌, ◌%◌, ◌^◌}
+use Rattle.numbers.specs.Library.{List, ℕ, eqb}
 use Rattle.numbers.specs.Prelude.{pick, no_row}
 use Rattle.numbers.specs.declared.{index.ItemIndex.ItemIndex, index.ShelfIndex.ShelfIndex}
 use Rattle.rows.specs.declared.{header.Header.Header, item.ItemRow.ItemRow, shelf.ShelfRow.ShelfRow}

@@ -1,5 +1,6 @@
 -- What taking a row and giving one back come to: which row it is, what it holds, and that all else stays. Assumes nothing.
-use Rattle.numbers.specs.Library.{◌≡◌, refl, sym, ap, ◌∙◌, ◌≢◌, List, [], ◌∷◌, map, ℕ, ◌+◌, ◌<◌, ℕ_discrete, arith, length, eqb, eqb-true, eq-eqb, ne_eqb}
+use Rattle.std.specs.Prelude.{◌≡◌, ◌≢◌, ◌∷◌, ◌+◌, ◌<◌}
+use Rattle.numbers.specs.Library.{refl, sym, ap, ◌∙◌, List, [], map, ℕ, ℕ_discrete, arith, length, eqb, eqb-true, eq-eqb, ne_eqb}
 use Rattle.std.proofs.Common.{mod-eq_of_lt}
 use Rattle.numbers.specs.Prelude.{Decides, no_row, most_rows}
 use Rattle.numbers.specs.declared.{index.ItemIndex.ItemIndex, index.ShelfIndex.ShelfIndex}

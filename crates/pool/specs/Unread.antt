@@ -1,6 +1,7 @@
 -- The numbers after the used rows are never read: tables that agree on their used rows give the same answers, and agree on the used rows
 -- after it. They change only when a row is taken into use. Assumes nothing.
-use Rattle.numbers.specs.Library.{◌≡◌, sym, ap, ◌∙◌, ◌≢◌, List, ℕ, ◌+◌, ◌^◌, ◌≤◌, ◌<◌, dec_lt, ℕ_discrete, arith, eq-eqb, eqb}
+use Rattle.std.specs.Prelude.{◌≡◌, ◌≢◌, ◌+◌, ◌^◌, ◌≤◌, ◌<◌}
+use Rattle.numbers.specs.Library.{sym, ap, ◌∙◌, List, ℕ, dec_lt, ℕ_discrete, arith, eq-eqb, eqb}
 use Rattle.std.proofs.Math.Nat.{mod-le}
 use Rattle.numbers.specs.Prelude.{pick, no_row, most_rows}
 use Rattle.numbers.specs.declared.{index.ItemIndex.ItemIndex, index.ShelfIndex.ShelfIndex}

@@ -1,4 +1,6 @@
 // Rows of the two tables taken into use and given back. The header goes in and out by value.
+#![tactic(auto)]
+
 ghost use Rattle.std.specs.Prelude.{◌≡◌, ◌+◌, ◌≤◌};
 ghost use Rattle.pool.specs.Pool.{add_item, added_item, remove_item, item_freed, add_shelf, added_shelf, remove_shelf, remove_shelf_item, shelf_freed, FreedItem};
 ghost use Rattle.pool.specs.Pool.{FreedShelf};
@@ -11,13 +13,13 @@ use rows::shelf::ShelfRow;
 use rows::{item, shelf};
 
 // The row that was taken, and the header after it.
-#[derive(Drop)]
+#[derive(Clone, Copy)]
 pub struct AddedItem {
     pub idx: ItemIndex,
     pub header: Header,
 }
 
-#[derive(Drop)]
+#[derive(Clone, Copy)]
 pub struct AddedShelf {
     pub idx: ShelfIndex,
     pub header: Header,

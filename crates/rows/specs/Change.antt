@@ -1,6 +1,7 @@
 -- A row of a table changed where it stands, and reads after stores in the form that `simp` works out.
 -- The width is a variable throughout. Assumes nothing.
-use Rattle.numbers.specs.Library.{◌≡◌, refl, ap, ◌∙◌, ◌≢◌, true, List, ℕ, ◌≤◌, ◌<◌, dec_lt, ℕ_discrete, arith, ltb, length, ltb-true}
+use Rattle.std.specs.Prelude.{◌≡◌, ◌≢◌, ◌≤◌, ◌<◌}
+use Rattle.numbers.specs.Library.{refl, ap, ◌∙◌, true, List, ℕ, dec_lt, ℕ_discrete, arith, ltb, length, ltb-true}
 use Rattle.numbers.specs.Prelude.{no_row}
 use Rattle.rows.specs.Row.{Shape, rows, rest, get, put, length-put, rows-put, rest_put, get-put_same, get-put_other, put_out, put_none}
 

@@ -1,5 +1,6 @@
 -- The header: eleven numbers in document 01's order. Assumes nothing.
-use Rattle.numbers.specs.Library.{List, [], ◌∷◌, ℕ, get_or, set, drop}
+use Rattle.std.specs.Prelude.{◌∷◌}
+use Rattle.numbers.specs.Library.{List, [], ℕ, get_or, set, drop}
 use Rattle.numbers.specs.declared.{index.ItemIndex.ItemIndex, index.ShelfIndex.ShelfIndex, limits.Limits.Limits}
 use Rattle.rows.specs.declared.header.Header.{Header}
 

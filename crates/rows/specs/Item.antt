@@ -1,6 +1,7 @@
 -- The item table: what a row holds, and how it stands in the table. The width of a row is said here, and nowhere above.
 -- Assumes nothing.
-use Rattle.numbers.specs.Library.{refl, List, [], ◌∷◌, ℕ, ◌*◌, lit<, get_or, set}
+use Rattle.std.specs.Prelude.{◌∷◌, ◌*◌}
+use Rattle.numbers.specs.Library.{refl, List, [], ℕ, lit<, get_or, set}
 use Rattle.numbers.specs.declared.{index.ItemIndex.ItemIndex, index.ShelfIndex.ShelfIndex}
 use Rattle.rows.specs.declared.item.ItemRow.{ItemRow}
 use Rattle.rows.specs.Part.{each_all}

@@ -1,6 +1,7 @@
 -- Links that lead to the first n rows of the item table only, or to none. What is written into such a table along such links leaves it such a one,
 -- and changes none of the rows after the first n. Assumes nothing.
-use Rattle.numbers.specs.Library.{ℕ, ◌≤◌, ◌<◌, ◌≡◌, ◌≢◌, ◌⊎◌, inl, inr, ⊎_elim, List, ℕ_discrete, arith}
+use Rattle.std.specs.Prelude.{◌≤◌, ◌<◌, ◌≡◌, ◌≢◌, ◌⊎◌}
+use Rattle.numbers.specs.Library.{ℕ, inl, inr, ⊎_elim, List, ℕ_discrete, arith}
 use Rattle.numbers.specs.Prelude.{no_row}
 use Rattle.rows.specs.declared.item.ItemRow.{ItemRow}
 use Rattle.rows.specs.Row.{rows, get, put, rows-put, get-put_same, get-put_other, get_none, put_none}

@@ -1,6 +1,7 @@
 -- Parts of a list of numbers: the k numbers from some place on, taken out or replaced, and a list written out by its elements.
 -- Assumes nothing.
-use Rattle.numbers.specs.Library.{◌≡◌, sym, ap, ◌∙◌, subst, List, [], ◌∷◌, ◌++◌, append-nil, ℕ, zero, suc, ◌+◌, ◌-◌, ◌≤◌, ◌<◌, arith, length, get_or, take, drop}
+use Rattle.std.specs.Prelude.{◌≡◌, ◌∷◌, ◌++◌, ◌+◌, ◌-◌, ◌≤◌, ◌<◌}
+use Rattle.numbers.specs.Library.{sym, ap, ◌∙◌, subst, List, [], append-nil, ℕ, zero, suc, arith, length, get_or, take, drop}
 use Rattle.numbers.specs.Library.{length-append, length-drop, length-take-le, drop-cons}
 use Rattle.std.proofs.Common.{drop_of_length-le, get_or-append-add}
 use Rattle.std.proofs.Math.ListN.{get_or-append}

@@ -1,6 +1,7 @@
 -- A table of which only the first n rows may have changed: every later row, what is left after the last row and the length are as they were.
 -- Assumes nothing.
-use Rattle.numbers.specs.Library.{ℕ, ◌≤◌, ◌<◌, ◌≡◌, refl, ◌∙◌, ◌⊎◌, ⊎_elim, List, arith, length}
+use Rattle.std.specs.Prelude.{◌≤◌, ◌<◌, ◌≡◌, ◌⊎◌}
+use Rattle.numbers.specs.Library.{ℕ, refl, ◌∙◌, ⊎_elim, List, arith, length}
 use Rattle.numbers.specs.Prelude.{no_row}
 use Rattle.rows.specs.Row.{Shape, rest, get, put, length-put, rest_put, get-put_other}
 use Rattle.rows.specs.Change.{change, change-is, change_none}

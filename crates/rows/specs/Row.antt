@@ -1,7 +1,8 @@
 -- A flat table of numbers as rows of one width: what a row is, what storing one does, and the laws of both.
 -- The width is a variable throughout. Assumes nothing.
-use Rattle.numbers.specs.Library.{◌≡◌, refl, sym, ap, ◌∙◌, subst, ◌≢◌, ◌⊎◌, inl, inr, ⊎_elim, List, [], ◌++◌, append_assoc, ℕ, suc, ◌+◌, ◌-◌, ◌*◌, ◌/◌, ◌%◌}
-use Rattle.numbers.specs.Library.{min, ◌≤◌, ◌<◌, suc-mul, mul-le-mul_right, div-add-mod', mod-lt, le-div_iff_mul-le, div-mul-le_self, dec_lt, ℕ_discrete, arith}
+use Rattle.std.specs.Prelude.{◌≡◌, ◌≢◌, ◌⊎◌, ◌++◌, ◌+◌, ◌-◌, ◌*◌, ◌/◌, ◌%◌, ◌≤◌, ◌<◌}
+use Rattle.numbers.specs.Library.{refl, sym, ap, ◌∙◌, subst, inl, inr, ⊎_elim, List, [], append_assoc, ℕ, suc}
+use Rattle.numbers.specs.Library.{min, suc-mul, mul-le-mul_right, div-add-mod', mod-lt, le-div_iff_mul-le, div-mul-le_self, dec_lt, ℕ_discrete, arith}
 use Rattle.numbers.specs.Library.{leb, ltb, length, get_or, take, drop, length-take, length-drop, lt-ltb, le-ltb, leb-true, le-leb}
 use Rattle.std.proofs.Math.Nat.{add-sub_cancel_left, min-le_left, min-le_right, le-min}
 use Rattle.std.proofs.Math.Seq.{get_or-drop, ext_get_or}

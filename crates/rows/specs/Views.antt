@@ -1,5 +1,6 @@
 -- An item row seen in two views that do not overlap: its two free links, and all else. Assumes nothing.
-use Rattle.numbers.specs.Library.{◌≡◌, ap, ◌∙◌, ℕ}
+use Rattle.std.specs.Prelude.{◌≡◌}
+use Rattle.numbers.specs.Library.{ap, ◌∙◌, ℕ}
 use Rattle.rows.specs.declared.item.ItemRow.{ItemRow}
 
 pub record Body : Type 0 where

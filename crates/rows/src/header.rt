@@ -5,7 +5,7 @@ ghost use Rattle.rows.specs.Header.{zero_header};
 use numbers::index::{ItemIndex, ShelfIndex};
 use numbers::limits::Limits;
 
-#[derive(Drop)]
+#[derive(Clone, Copy)]
 pub struct Header {
     pub limits: Limits,
     pub used_shelves: u16,

@@ -10,7 +10,7 @@ use numbers::index::{ItemIndex, MOST_ROWS, ShelfIndex};
 pub const NUMBERS: usize = 9;
 
 // An item row, in the source's field order; `allocated` is 0 or 1.
-#[derive(Drop)]
+#[derive(Clone, Copy)]
 pub struct ItemRow {
     pub x: u16,
     pub width: u16,

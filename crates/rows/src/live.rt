@@ -1,5 +1,5 @@
 // What an answer tells of a live item: its id, and the corners of its rectangle in x and y.
-#[derive(Drop)]
+#[derive(Clone, Copy)]
 pub struct Live {
     pub row: u16,
     pub generation: u16,

@@ -9,7 +9,7 @@ use numbers::index::{ItemIndex, MOST_ROWS, ShelfIndex};
 pub const NUMBERS: usize = 8;
 
 // A shelf row, in the source's field order; `is_empty` is 0 or 1.
-#[derive(Drop)]
+#[derive(Clone, Copy)]
 pub struct ShelfRow {
     pub x: u16,
     pub y: u16,

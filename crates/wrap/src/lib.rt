@@ -1,4 +1,6 @@
 // Sums, differences and products of stored numbers. They wrap where they would not fit, so that no caller has to know that they fit.
+#![tactic(auto)]
+
 ghost use Rattle.std.specs.Prelude.{◌≡◌, ◌*◌};
 ghost use Rattle.wrap.specs.Wrap.{plus16, minus16, times16, plus32, minus32};
 
