@@ -1,5 +1,6 @@
 -- The live rectangles of an atlas, in x and y: which there are, that they lie inside, that no two share a pixel, and their area. Assumes nothing.
-use Rattle.numbers.specs.Library.{ℕ, ◌+◌, ◌-◌, ◌*◌, ◌≤◌, ◌<◌, ◌≡◌, List, [], ◌∷◌, ◌++◌, ℤ, pos}
+use Rattle.std.specs.Prelude.{◌+◌, ◌-◌, ◌*◌, ◌≤◌, ◌<◌, ◌≡◌, ◌∷◌, ◌++◌}
+use Rattle.numbers.specs.Library.{ℕ, List, [], ℤ, pos}
 use Rattle.numbers.specs.Prelude.{pick, first_axis, second_axis}
 use Rattle.numbers.specs.declared.{limits.Limits.Limits, request.Asked.Asked}
 use Rattle.rows.specs.declared.live.Live.{Live}

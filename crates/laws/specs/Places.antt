@@ -1,5 +1,6 @@
 -- What is a place for a request, and when an atlas has none. Assumes nothing.
-use Rattle.numbers.specs.Library.{ℕ, ◌≤◌, ◌<◌, ◌≡◌, ◌⊎◌, true, false, some, List, [], ◌∷◌}
+use Rattle.std.specs.Prelude.{◌≤◌, ◌<◌, ◌≡◌, ◌⊎◌, ◌∷◌}
+use Rattle.numbers.specs.Library.{ℕ, true, false, some, List, []}
 use Rattle.numbers.specs.declared.request.Asked.{Asked}
 use Rattle.chains.specs.Prelude.{◌∈◌, Distinct, Each, Focus, back_onto}
 use Rattle.rules.specs.Prelude.{Item, Shelf, Atlas, Room, good, bad, width_of, search, find_item, splits_shelf, splits_item, too_few_rows, item_rows_of}

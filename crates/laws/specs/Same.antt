@@ -1,5 +1,6 @@
 -- Two states alike in all that an audit reads: the header, and the used rows of both tables; and what is the same for both. Assumes nothing.
-use Rattle.numbers.specs.Library.{ℕ, ◌<◌, ◌≡◌, List, length}
+use Rattle.std.specs.Prelude.{◌<◌, ◌≡◌}
+use Rattle.numbers.specs.Library.{ℕ, List, length}
 use Rattle.rows.specs.Prelude.{get, items, shelves}
 use Rattle.rows.specs.declared.header.Header.{Header}
 use Rattle.chains.specs.Prelude.{◌iff◌}

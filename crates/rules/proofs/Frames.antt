@@ -1,5 +1,6 @@
 -- A shelf whose item rows are alike in two tables lies in both or in neither. Assumes nothing.
-use Rattle.numbers.specs.Library.{ℕ, ◌≡◌, ap, ◌∙◌, List, [], ◌∷◌, Memᴰ·append-left, Memᴰ·append-right}
+use Rattle.std.specs.Prelude.{◌≡◌, ◌∷◌}
+use Rattle.numbers.specs.Library.{ℕ, ap, ◌∙◌, List, [], Memᴰ·append-left, Memᴰ·append-right}
 use Rattle.numbers.specs.Prelude.{no_row}
 use Rattle.rows.specs.Prelude.{get, items, body_of, links_of}
 use Rattle.chains.specs.Prelude.{◌∈◌, Each}

@@ -1,5 +1,6 @@
 -- The rows of live items, and of free ones, are rows of items; none is both. Assumes nothing.
-use Rattle.numbers.specs.Library.{ℕ, Bool, true, false, List, [], ◌∷◌, List·Memᴰ·not-nil}
+use Rattle.std.specs.Prelude.{◌∷◌}
+use Rattle.numbers.specs.Library.{ℕ, Bool, true, false, List, [], List·Memᴰ·not-nil}
 use Rattle.numbers.specs.Prelude.{pick}
 use Rattle.chains.specs.Prelude.{◌∈◌, Distinct, Apart}
 use Rattle.chains.proofs.Prelude.{within, parts_apart}

@@ -1,6 +1,7 @@
 -- An atlas as document 01 speaks of it: columns of shelves, shelves of stretches, and the rows that name them. No link and no
 -- offset stands here: how an atlas lies in the two tables is told in Stores. Assumes nothing.
-use Rattle.numbers.specs.Library.{ℕ, zero, suc, ◌+◌, ◌*◌, Bool, false, not, List, [], ◌∷◌}
+use Rattle.std.specs.Prelude.{◌+◌, ◌*◌, ◌∷◌}
+use Rattle.numbers.specs.Library.{ℕ, zero, suc, Bool, false, not, List, []}
 use Rattle.numbers.specs.Prelude.{pick, columns}
 use Rattle.numbers.specs.declared.limits.Limits.{Limits}
 

@@ -1,6 +1,7 @@
 -- The audit: document 01's seven rules, each under its number, over any header and any two tables; and the atlas that lies in tables that
 -- keep them. `S` is the shelf table and `I` the item table throughout. Assumes nothing.
-use Rattle.numbers.specs.Library.{ℕ, ◌+◌, ◌*◌, ◌%◌, ◌≤◌, ◌<◌, ◌≡◌, Bool, false, not, ◌&&◌, List, [], ◌∷◌, map, ltb, eqb}
+use Rattle.std.specs.Prelude.{◌+◌, ◌*◌, ◌%◌, ◌≤◌, ◌<◌, ◌≡◌, ◌&&◌, ◌∷◌}
+use Rattle.numbers.specs.Library.{ℕ, Bool, false, not, List, [], map, ltb, eqb}
 use Rattle.numbers.specs.Prelude.{pick, no_row, along_step, columns, WithinLimits}
 use Rattle.rows.specs.Prelude.{rows, get, items, shelves, links_of}
 use Rattle.pool.specs.Pool.{FreedShelf, FreedItem}

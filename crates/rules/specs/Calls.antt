@@ -1,6 +1,7 @@
 -- What each call comes to for an atlas that passed the audit, with the checks in document 01's order. Answer 3 is given before any of this, where
 -- the audit fails. Assumes nothing.
-use Rattle.numbers.specs.Library.{ℕ, zero, suc, Bool, true, ◌&&◌, ◌||◌, List, [], ◌∷◌, ◌++◌, none, some, ℤ, ltb, length}
+use Rattle.std.specs.Prelude.{◌&&◌, ◌||◌, ◌∷◌, ◌++◌}
+use Rattle.numbers.specs.Library.{ℕ, zero, suc, Bool, true, List, [], none, some, ℤ, ltb, length}
 use Rattle.numbers.specs.Prelude.{pick, asked, create_numbers, columns, space_left, first_axis, second_axis}
 use Rattle.numbers.specs.declared.limits.Limits.{Limits}
 use Rattle.numbers.specs.declared.limits.Limited.TheVariants.{Within, Refused as Beyond}

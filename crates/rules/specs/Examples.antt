@@ -1,6 +1,7 @@
 -- Document 01's whole case and its run examples, computed; then runs that a rule slightly other than 01's would answer otherwise. The answers to these
 -- are the Rust's, but for the tables that fill up. Assumes nothing.
-use Rattle.numbers.specs.Library.{ℕ, ◌≡◌, refl, List, [], ◌∷◌, none, ℤ, pos, negsuc}
+use Rattle.std.specs.Prelude.{◌≡◌, ◌∷◌}
+use Rattle.numbers.specs.Library.{ℕ, refl, List, [], none, ℤ, pos, negsuc}
 use Rattle.numbers.specs.declared.limits.Limits.{Limits}
 use Rattle.rows.specs.declared.live.Live.{Live}
 use Rattle.rules.specs.Atlas.{Room, fresh}

@@ -1,5 +1,6 @@
 -- What a grant changes: rows are taken, the shelf and the item are split where 01 says so. Assumes nothing.
-use Rattle.numbers.specs.Library.{ℕ, ◌+◌, ◌-◌, ◌%◌, Bool, true, false, ◌&&◌, ◌||◌, List, [], ◌∷◌, ◌++◌, Option, none, some, length, ltb, eqb}
+use Rattle.std.specs.Prelude.{◌+◌, ◌-◌, ◌%◌, ◌&&◌, ◌||◌, ◌∷◌, ◌++◌}
+use Rattle.numbers.specs.Library.{ℕ, Bool, true, false, List, [], Option, none, some, length, ltb, eqb}
 use Rattle.numbers.specs.Prelude.{pick, large_enough_to_split, first_axis, second_axis}
 use Rattle.numbers.specs.declared.{limits.Limits.Limits, request.Asked.Asked}
 use Rattle.chains.specs.Prelude.{Focus, back_onto}

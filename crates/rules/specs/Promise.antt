@@ -1,6 +1,7 @@
 -- What every call promises, for every header, every two tables and whatever is asked, in one form: it is one step of the rules. `h`, `S` and `I`
 -- are the header, the shelf table and the item table before the call, `h'`, `S'` and `I'` after it. Assumes nothing.
-use Rattle.numbers.specs.Library.{ℕ, ◌≡◌, List, none, some}
+use Rattle.std.specs.Prelude.{◌≡◌}
+use Rattle.numbers.specs.Library.{ℕ, List, none, some}
 use Rattle.numbers.specs.Prelude.{pick}
 use Rattle.rows.specs.Prelude.{Past, items, shelves, zero_header}
 use Rattle.rows.specs.declared.header.Header.{Header}

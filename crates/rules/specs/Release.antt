@@ -1,5 +1,6 @@
 -- What a release changes: the item is merged with its free neighbours, an emptied shelf with its empty ones. Assumes nothing.
-use Rattle.numbers.specs.Library.{ℕ, ◌+◌, Bool, false, ◌&&◌, List, [], ◌∷◌, Option, none, some, eqb}
+use Rattle.std.specs.Prelude.{◌+◌, ◌&&◌, ◌∷◌}
+use Rattle.numbers.specs.Library.{ℕ, Bool, false, List, [], Option, none, some, eqb}
 use Rattle.numbers.specs.Prelude.{pick}
 use Rattle.chains.specs.Prelude.{Focus, back_onto}
 use Rattle.rules.specs.Atlas.{Item, Shelf, Pool, Rows, Atlas, is_empty_of, resized}

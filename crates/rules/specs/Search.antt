@@ -1,5 +1,6 @@
 -- Where a request goes: document 01's walk of the shelf chain. Assumes nothing.
-use Rattle.numbers.specs.Library.{ℕ, Bool, true, false, not, ◌&&◌, ◌||◌, List, [], ◌∷◌, Option, none, some, leb, ltb, eqb}
+use Rattle.std.specs.Prelude.{◌&&◌, ◌||◌, ◌∷◌}
+use Rattle.numbers.specs.Library.{ℕ, Bool, true, false, not, List, [], Option, none, some, leb, ltb, eqb}
 use Rattle.numbers.specs.Prelude.{pick, good_fit_to}
 use Rattle.numbers.specs.declared.request.Asked.{Asked}
 use Rattle.chains.specs.Prelude.{Focus}

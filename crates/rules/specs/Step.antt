@@ -1,6 +1,7 @@
 -- One step for every call: what it comes to with an atlas, or with none, and what it tells in document 01's numbers; and runs of calls. These are
 -- what the public calls and the script program promise. Assumes nothing.
-use Rattle.numbers.specs.Library.{ℕ, zero, suc, Bool, true, false, List, [], ◌∷◌, Option, none, some, ℤ, length}
+use Rattle.std.specs.Prelude.{◌∷◌}
+use Rattle.numbers.specs.Library.{ℕ, zero, suc, Bool, true, false, List, [], Option, none, some, ℤ, length}
 use Rattle.numbers.specs.Prelude.{pick, columns}
 use Rattle.rows.specs.declared.live.Live.{Live}
 use Rattle.rules.specs.Atlas.{Atlas, Room, occupied}

@@ -1,5 +1,6 @@
 -- How an atlas lies in a header and two tables: what each row says. The numbers after the used rows are spoken of nowhere. Assumes nothing.
-use Rattle.numbers.specs.Library.{ℕ, ◌≡◌, Bool, true, false, List, [], ◌∷◌}
+use Rattle.std.specs.Prelude.{◌≡◌, ◌∷◌}
+use Rattle.numbers.specs.Library.{ℕ, Bool, true, false, List, []}
 use Rattle.numbers.specs.Prelude.{pick, no_row}
 use Rattle.rows.specs.Prelude.{rows, get, items, shelves, Body, Links, body_of, links_of}
 use Rattle.pool.specs.Pool.{freed_shelf_row, freed_item_row}

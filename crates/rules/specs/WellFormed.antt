@@ -1,5 +1,6 @@
 -- What an atlas keeps from call to call: its shelves fill the columns, its items fill the shelves, and every row serves once. Assumes nothing.
-use Rattle.numbers.specs.Library.{ℕ, ◌+◌, ◌*◌, ◌%◌, ◌≤◌, ◌<◌, ◌≡◌, false, not, ◌&&◌, List, [], ◌∷◌, eqb}
+use Rattle.std.specs.Prelude.{◌+◌, ◌*◌, ◌%◌, ◌≤◌, ◌<◌, ◌≡◌, ◌&&◌, ◌∷◌}
+use Rattle.numbers.specs.Library.{ℕ, false, not, List, [], eqb}
 use Rattle.numbers.specs.Prelude.{pick, along_step, columns, WithinLimits}
 use Rattle.numbers.specs.declared.limits.Limits.{Limits}
 use Rattle.chains.specs.Prelude.{◌∈◌, ◌iff◌, Distinct, Each, Neighbours, gather, first_row}

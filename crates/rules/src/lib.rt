@@ -1,1 +1,2 @@
 // The rules of document 01 have no code.
+#![tactic(auto)]

@@ -1,5 +1,6 @@
 -- Lists around a place in them: what each element and the next have, while one changes or two become one. Assumes nothing.
-use Rattle.numbers.specs.Library.{◌≡◌, refl, Bool, true, false, List, [], ◌∷◌}
+use Rattle.std.specs.Prelude.{◌≡◌, ◌∷◌}
+use Rattle.numbers.specs.Library.{refl, Bool, true, false, List, []}
 use Rattle.numbers.specs.Prelude.{pick}
 use Rattle.chains.specs.Prelude.{Neighbours, back_onto}
 

@@ -1,6 +1,7 @@
 -- The live records of an atlas by rising row, as `list` tells them, against the same records in the order of its shelves: the same ones, each once.
 -- So what the laws say of the one order holds in the other. Assumes nothing.
-use Rattle.numbers.specs.Library.{ℕ, zero, suc, ◌+◌, ◌-◌, ◌≤◌, ◌<◌, ◌≡◌, refl, sym, ap, ◌∙◌, ◌≢◌, inr, Bool, true, false, Option, none, some, List, [], ◌∷◌, ◌++◌}
+use Rattle.std.specs.Prelude.{◌+◌, ◌≤◌, ◌<◌, ◌≡◌, ◌≢◌, ◌∷◌, ◌++◌}
+use Rattle.numbers.specs.Library.{ℕ, zero, suc, refl, sym, ap, ◌∙◌, inr, Bool, true, false, Option, none, some, List, []}
 use Rattle.numbers.specs.Library.{append_assoc, append-nil, List·Memᴰ·head, List·Memᴰ·tail, Memᴰ·append-left, Memᴰ·append-right, ℕ_discrete, arith, eqb, eq-eqb, ne_eqb, eqb-true}
 use Rattle.numbers.specs.Prelude.{pick}
 use Rattle.numbers.specs.declared.limits.Limits.{Limits}

@@ -1,5 +1,6 @@
 -- Where the items of a shelf lie along it, and the shelves of an atlas in its columns. Assumes nothing.
-use Rattle.numbers.specs.Library.{ℕ, ◌+◌, ◌*◌, ◌/◌, ◌≤◌, ◌≡◌, ◌⊎◌, inl, inr, ⊎_elim, Bool, true, false, List, [], ◌∷◌, add-mul, mul-le-mul_right}
+use Rattle.std.specs.Prelude.{◌+◌, ◌*◌, ◌/◌, ◌≤◌, ◌≡◌, ◌⊎◌, ◌∷◌}
+use Rattle.numbers.specs.Library.{ℕ, inl, inr, ⊎_elim, Bool, true, false, List, [], add-mul, mul-le-mul_right}
 use Rattle.numbers.specs.Library.{div-mul-le_self, arith, eqb}
 use Rattle.numbers.specs.Prelude.{pick, columns}
 use Rattle.numbers.specs.declared.limits.Limits.{Limits}

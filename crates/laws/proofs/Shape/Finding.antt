@@ -1,5 +1,6 @@
 -- What a look for a row finds, and what the search for a place finds. Assumes nothing.
-use Rattle.numbers.specs.Library.{ℕ, ◌≤◌, ◌≡◌, refl, sym, ◌≢◌, ⊎_elim, Bool, true, false, ◌&&◌, ◌||◌, Option, none, some, List, [], ◌∷◌, List·Memᴰ·head}
+use Rattle.std.specs.Prelude.{◌≤◌, ◌≡◌, ◌≢◌, ◌&&◌, ◌||◌, ◌∷◌}
+use Rattle.numbers.specs.Library.{ℕ, refl, sym, ⊎_elim, Bool, true, false, Option, none, some, List, [], List·Memᴰ·head}
 use Rattle.numbers.specs.Library.{List·Memᴰ·tail, List·Memᴰ·not-nil, List·Memᴰ·cases-cons, List·Memᴰ·append-cases, ℕ_discrete, leb, ltb, eqb, eq-eqb, ne_eqb}
 use Rattle.numbers.specs.Library.{leb-true, ltb-false}
 use Rattle.numbers.specs.Prelude.{pick}

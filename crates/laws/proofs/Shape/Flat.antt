@@ -1,5 +1,6 @@
 -- Lists one after the other: around a place, and what their elements have, singly and in pairs. Assumes nothing.
-use Rattle.numbers.specs.Library.{◌≡◌, refl, ◌∙◌, List, [], ◌∷◌, ◌++◌, append_assoc, append-nil}
+use Rattle.std.specs.Prelude.{◌≡◌, ◌∷◌, ◌++◌}
+use Rattle.numbers.specs.Library.{refl, ◌∙◌, List, [], append_assoc, append-nil}
 use Rattle.chains.specs.Prelude.{Each, back_onto}
 use Rattle.chains.proofs.Prelude.{each_map, each_both}
 use Rattle.laws.specs.Lives.{flat, Pairs}

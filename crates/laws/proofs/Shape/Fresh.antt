@@ -1,5 +1,6 @@
 -- A fresh atlas keeps the rules. Assumes nothing.
-use Rattle.numbers.specs.Library.{ℕ, zero, suc, ◌<◌, ◌≤◌, ◌+◌, ◌*◌, ◌≡◌, refl, ⊎_elim, List, [], ◌∷◌, List·Memᴰ·head, List·Memᴰ·tail, List·Memᴰ·not-nil}
+use Rattle.std.specs.Prelude.{◌<◌, ◌≤◌, ◌+◌, ◌*◌, ◌≡◌, ◌∷◌}
+use Rattle.numbers.specs.Library.{ℕ, zero, suc, refl, ⊎_elim, List, [], List·Memᴰ·head, List·Memᴰ·tail, List·Memᴰ·not-nil}
 use Rattle.numbers.specs.Library.{List·Memᴰ·cases-cons, ℕ_discrete, suc-mul, le-div_iff_mul-le, add-one, arith, eq-eqb, ne_eqb}
 use Rattle.numbers.specs.declared.limits.Limits.{Limits}
 use Rattle.numbers.specs.Prelude.{columns, WithinLimits}

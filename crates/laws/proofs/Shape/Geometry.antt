@@ -1,5 +1,6 @@
 -- The rules of shelves in columns and of items along a shelf, at one place of each. Assumes nothing.
-use Rattle.numbers.specs.Library.{ℕ, ◌<◌, ◌≤◌, ◌+◌, ◌-◌, ◌*◌, ◌%◌, ◌≡◌, ap, ◌∙◌, Bool, true, false, ◌&&◌, and-false, List, [], ◌∷◌, arith, eqb, ne_eqb}
+use Rattle.std.specs.Prelude.{◌<◌, ◌≤◌, ◌+◌, ◌-◌, ◌*◌, ◌%◌, ◌≡◌, ◌&&◌, ◌∷◌}
+use Rattle.numbers.specs.Library.{ℕ, ap, ◌∙◌, Bool, true, false, and-false, List, [], arith, eqb, ne_eqb}
 use Rattle.numbers.specs.Library.{eqb-true}
 use native.Mathlib.Nat.{dvd-sub, dvd-add, dvd_of_mod-eq-zero, mod-eq-zero_of_dvd}
 use Rattle.numbers.specs.Prelude.{pick, along_step, WithinLimits, both}

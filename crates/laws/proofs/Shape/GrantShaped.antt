@@ -1,6 +1,7 @@
 -- A grant keeps the shape of an atlas: in a shelf, whole or in part, and where the shelf is split before. Assumes nothing.
-use Rattle.numbers.specs.Library.{ℕ, ◌<◌, ◌≤◌, ◌+◌, ◌%◌, ◌≡◌, refl, sym, ap, subst, ◌⊎◌, inl, inr, ⊎_elim, Bool, true, false, not, ◌&&◌, and-false, List, []}
-use Rattle.numbers.specs.Library.{◌∷◌, List·Memᴰ·head, List·Memᴰ·cases-cons, Memᴰ·append-right, arith, ltb, ltb-true}
+use Rattle.std.specs.Prelude.{◌<◌, ◌≤◌, ◌+◌, ◌%◌, ◌≡◌, ◌⊎◌, ◌&&◌, ◌∷◌}
+use Rattle.numbers.specs.Library.{ℕ, refl, sym, ap, subst, inl, inr, ⊎_elim, Bool, true, false, not, and-false, List, []}
+use Rattle.numbers.specs.Library.{List·Memᴰ·head, List·Memᴰ·cases-cons, Memᴰ·append-right, arith, ltb, ltb-true}
 use Rattle.numbers.specs.declared.{limits.Limits.Limits, request.Asked.Asked}
 use Rattle.chains.specs.Prelude.{◌∈◌, Neighbours, Focus, back_onto}
 use Rattle.chains.proofs.Prelude.{not_out, onto_apart, in_onto, onto_in, each_split}

@@ -1,5 +1,6 @@
 -- The ways in which a request is granted: what holds of the place, and which of the two splits are made. Assumes nothing.
-use Rattle.numbers.specs.Library.{ℕ, ◌≡◌, refl, subst, true, false, Option, none, some, List, [], ◌∷◌, Memᴰ·cast}
+use Rattle.std.specs.Prelude.{◌≡◌, ◌∷◌}
+use Rattle.numbers.specs.Library.{ℕ, refl, subst, true, false, Option, none, some, List, [], Memᴰ·cast}
 use Rattle.numbers.specs.declared.request.Asked.{Asked}
 use Rattle.rows.specs.declared.live.Live.{Live}
 use Rattle.chains.specs.Prelude.{◌∈◌, Distinct, Focus, back_onto}

@@ -1,5 +1,6 @@
 -- What the atlas-level calls keep and what they find, in one place. Assumes nothing.
-use Rattle.numbers.specs.Library.{ℕ, zero, suc, ◌≤◌, ◌+◌, ◌≡◌, refl, sym, ap, ◌∙◌, subst, ℤ, ◌⊎◌, ⊎_elim, ◌&&◌, some, List, [], arith, eqb, eqb-true}
+use Rattle.std.specs.Prelude.{◌≤◌, ◌+◌, ◌≡◌, ◌⊎◌, ◌&&◌}
+use Rattle.numbers.specs.Library.{ℕ, zero, suc, refl, sym, ap, ◌∙◌, subst, ℤ, ⊎_elim, some, List, [], arith, eqb, eqb-true}
 use Rattle.numbers.specs.declared.{limits.Limits.Limits, request.Asked.Asked}
 use Rattle.rows.specs.declared.live.Live.{Live}
 use Rattle.chains.specs.Prelude.{◌iff◌, Each, Focus}
@@ -107,7 +108,7 @@ grant_covers room a asked live a' formed e =
 
 -- and, of a request's raw sides, these too
 pub covers_raw : (l : Limits) (asked : Asked) → WithinLimits l → (w height : ℤ) (live : Live) → request l w height ≡ Good asked → Enough l asked live → Covered w height live
-covers_raw = raw-sides.covers-raw
+covers_raw = raw-sides.covers_raw
 
 -- a grant adds one and moves none
 pub grant_lives : (room : Room) (a : Atlas) (asked : Asked) (live : Live) (a' : Atlas) → WellFormed room a → grant room a asked ≡ grants live a' → OneMore live (lives a) (lives a')

@@ -1,5 +1,6 @@
 -- The rows of a shelf's items: of live ones and of free ones, and a free list in which a row is replaced. Assumes nothing.
-use Rattle.numbers.specs.Library.{ℕ, ◌≡◌, refl, sym, ◌∙◌, ◌≢◌, inr, ⊎_elim, Bool, true, false, List, [], ◌∷◌, ◌++◌, List·Memᴰ·head, List·Memᴰ·tail}
+use Rattle.std.specs.Prelude.{◌≡◌, ◌≢◌, ◌∷◌, ◌++◌}
+use Rattle.numbers.specs.Library.{ℕ, refl, sym, ◌∙◌, inr, ⊎_elim, Bool, true, false, List, [], List·Memᴰ·head, List·Memᴰ·tail}
 use Rattle.numbers.specs.Library.{List·Memᴰ·not-nil, List·Memᴰ·cases-cons, Memᴰ·append-left, Memᴰ·append-right, ℕ_discrete, eqb, eq-eqb, ne_eqb}
 use Rattle.numbers.specs.Prelude.{pick}
 use Rattle.chains.specs.Prelude.{◌∈◌, Distinct, back_onto}

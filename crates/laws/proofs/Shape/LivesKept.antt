@@ -1,5 +1,6 @@
 -- A grant adds one live rectangle and a release takes one away; the others stay where they are. Assumes nothing.
-use Rattle.numbers.specs.Library.{ℕ, ◌+◌, ◌≡◌, refl, ap, ◌∙◌, true, false, some, List, [], ◌∷◌, ◌++◌, append_assoc, arith, not-true}
+use Rattle.std.specs.Prelude.{◌+◌, ◌≡◌, ◌∷◌, ◌++◌}
+use Rattle.numbers.specs.Library.{ℕ, refl, ap, ◌∙◌, true, false, some, List, [], append_assoc, arith, not-true}
 use Rattle.numbers.specs.Prelude.{pick_yes, pick_no, both}
 use Rattle.numbers.specs.declared.{limits.Limits.Limits, request.Asked.Asked}
 use Rattle.rows.specs.declared.live.Live.{Live}

@@ -1,5 +1,6 @@
 -- The four merges of a release by cases: no neighbour there, one that stays, one that is merged. Assumes nothing.
-use Rattle.numbers.specs.Library.{ℕ, ◌+◌, ◌≡◌, true, false, List, [], ◌∷◌}
+use Rattle.std.specs.Prelude.{◌+◌, ◌≡◌, ◌∷◌}
+use Rattle.numbers.specs.Library.{ℕ, true, false, List, []}
 use Rattle.chains.specs.Prelude.{back_onto}
 use Rattle.rules.specs.Prelude.{Item, Shelf, Rows, replace_row, Loose, Stack, free_item_row, free_shelf, free_with, deeper, joins, merge_next, merge_into, merge_below}
 use Rattle.rules.specs.Prelude.{merge_above}

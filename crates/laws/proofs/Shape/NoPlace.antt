@@ -1,6 +1,7 @@
 -- The search ends with nothing exactly where no shelf has a place. Assumes nothing.
-use Rattle.numbers.specs.Library.{ℕ, ◌<◌, ◌≤◌, ◌≡◌, refl, sym, ap, ◌∙◌, subst, ⊎_elim, Bool, true, false, ◌&&◌, ◌||◌, and-false, Option, none, some, List, []}
-use Rattle.numbers.specs.Library.{◌∷◌, List·Memᴰ·head, List·Memᴰ·tail, List·Memᴰ·not-nil, List·Memᴰ·cases-cons, List·Memᴰ·append-cases}
+use Rattle.std.specs.Prelude.{◌<◌, ◌≤◌, ◌≡◌, ◌&&◌, ◌||◌, ◌∷◌}
+use Rattle.numbers.specs.Library.{ℕ, refl, sym, ap, ◌∙◌, subst, ⊎_elim, Bool, true, false, and-false, Option, none, some, List, []}
+use Rattle.numbers.specs.Library.{List·Memᴰ·head, List·Memᴰ·tail, List·Memᴰ·not-nil, List·Memᴰ·cases-cons, List·Memᴰ·append-cases}
 use Rattle.numbers.specs.Library.{List·Memᴰ·eq-of-singleton, dec_lt, arith, leb, eqb, eq-eqb, ne_eqb, lt-leb, lt-ltb, le-ltb}
 use borrow.Author.Tests.{leb-false}
 use Rattle.numbers.specs.Prelude.{pick}

@@ -1,5 +1,6 @@
 -- A grant covers the sides as they were asked for: each was rounded up, and changed places with the other twice or not at all. Assumes nothing.
-use Rattle.numbers.specs.Library.{ℕ, ◌≤◌, ◌≡◌, refl, Bool, true, false, ◌&&◌, ℤ, pos, negsuc, arith, leb, eqb}
+use Rattle.std.specs.Prelude.{◌≤◌, ◌≡◌, ◌&&◌}
+use Rattle.numbers.specs.Library.{ℕ, refl, Bool, true, false, ℤ, pos, negsuc, arith, leb, eqb}
 use Rattle.numbers.specs.Prelude.{pick, one_to, natural, side_of, asked_of, asked, first_axis, second_axis, WithinLimits}
 use Rattle.numbers.specs.Request.{asked_within, judged}
 use Rattle.numbers.specs.Round.{round_up, rounds_up}

@@ -1,6 +1,7 @@
 -- The live rectangles of an atlas that is in shape lie inside it, and no two share a pixel; occupied is the sum of their areas; a grant is as large
 -- as asked. Assumes nothing.
-use Rattle.numbers.specs.Library.{ℕ, ◌+◌, ◌-◌, ◌*◌, ◌≤◌, ◌<◌, ◌≡◌, refl, ap, ◌∙◌, ◌⊎◌, inl, inr, ⊎_elim, Bool, true, false, List, [], ◌∷◌, ◌++◌, arith, eqb}
+use Rattle.std.specs.Prelude.{◌+◌, ◌-◌, ◌*◌, ◌≤◌, ◌<◌, ◌≡◌, ◌⊎◌, ◌∷◌, ◌++◌}
+use Rattle.numbers.specs.Library.{ℕ, refl, ap, ◌∙◌, inl, inr, ⊎_elim, Bool, true, false, List, [], arith, eqb}
 use native.Mathlib.Nat.{mul_comm}
 use Rattle.numbers.specs.Prelude.{pick, first_axis, second_axis}
 use Rattle.numbers.specs.declared.{limits.Limits.Limits, request.Asked.Asked}

@@ -1,5 +1,6 @@
 -- A release keeps the shape of an atlas, through its four merges. Assumes nothing.
-use Rattle.numbers.specs.Library.{ℕ, ◌+◌, ◌≡◌, refl, sym, ap, ◌∙◌, subst, inl, inr, ⊎_elim, Bool, true, false, not, ◌&&◌, some, List, [], ◌∷◌, List·Memᴰ·head}
+use Rattle.std.specs.Prelude.{◌+◌, ◌≡◌, ◌&&◌, ◌∷◌}
+use Rattle.numbers.specs.Library.{ℕ, refl, sym, ap, ◌∙◌, subst, inl, inr, ⊎_elim, Bool, true, false, not, some, List, [], List·Memᴰ·head}
 use Rattle.numbers.specs.Library.{List·Memᴰ·tail, List·Memᴰ·cases-cons, List·Memᴰ·append-cases, List·Memᴰ·eq-of-singleton, Memᴰ·append-left, Memᴰ·append-right}
 use Rattle.numbers.specs.declared.limits.Limits.{Limits}
 use Rattle.numbers.specs.Prelude.{WithinLimits}

@@ -1,5 +1,6 @@
 -- Answer 7 is given exactly where the splits of the place that the search holds need more rows than are left. Assumes nothing.
-use Rattle.numbers.specs.Library.{ℕ, ◌≡◌, refl, ◌≢◌, ◌⊎◌, inl, inr, Bool, true, false, some, [], ◌∷◌, arith}
+use Rattle.std.specs.Prelude.{◌≡◌, ◌≢◌, ◌⊎◌, ◌∷◌}
+use Rattle.numbers.specs.Library.{ℕ, refl, inl, inr, Bool, true, false, some, [], arith}
 use Rattle.numbers.specs.Prelude.{pick}
 use Rattle.numbers.specs.declared.request.Asked.{Asked}
 use Rattle.rows.specs.declared.live.Live.{Live}

@@ -1,5 +1,6 @@
 -- An atlas says every number of the header and of the used rows. Assumes nothing.
-use Rattle.numbers.specs.Library.{ℕ, ◌<◌, ◌≤◌, ◌≡◌, sym, ap, ◌∙◌, ◌⊎◌, inl, inr, ⊎_elim, Bool, true, false, List, [], ◌∷◌, List·Memᴰ·head, List·Memᴰ·not-nil}
+use Rattle.std.specs.Prelude.{◌<◌, ◌≤◌, ◌≡◌, ◌⊎◌, ◌∷◌}
+use Rattle.numbers.specs.Library.{ℕ, sym, ap, ◌∙◌, inl, inr, ⊎_elim, Bool, true, false, List, [], List·Memᴰ·head, List·Memᴰ·not-nil}
 use Rattle.numbers.specs.Library.{List·Memᴰ·cases-cons, List·Memᴰ·append-cases, Memᴰ·append-left, Memᴰ·append-right, dec_lt, arith, length}
 use Rattle.numbers.specs.Prelude.{no_row, pick}
 use Rattle.rows.specs.Prelude.{get, rest, same_rows, items, shelves, body_of, links_of, same_row}

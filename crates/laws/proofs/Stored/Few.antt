@@ -1,5 +1,6 @@
 -- A list has no more items than the item table has rows. Assumes nothing.
-use Rattle.numbers.specs.Library.{ℕ, zero, suc, ◌≤◌, arith, Bool, true, false, Option, none, some, List, [], ◌∷◌, length, length-append}
+use Rattle.std.specs.Prelude.{◌≤◌, ◌∷◌}
+use Rattle.numbers.specs.Library.{ℕ, zero, suc, arith, Bool, true, false, Option, none, some, List, [], length, length-append}
 use Rattle.numbers.specs.Prelude.{pick}
 use Rattle.rows.specs.Prelude.{rows, items}
 use Rattle.rows.specs.declared.{header.Header.Header, live.Live.Live}

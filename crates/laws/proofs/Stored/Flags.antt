@@ -1,5 +1,6 @@
 -- Flags as numbers and as truth values. Assumes nothing.
-use Rattle.numbers.specs.Library.{ℕ, zero, suc, ◌≤◌, ◌≡◌, refl, Bool, true, false, not, arith, eqb}
+use Rattle.std.specs.Prelude.{◌≤◌, ◌≡◌}
+use Rattle.numbers.specs.Library.{ℕ, zero, suc, refl, Bool, true, false, not, arith, eqb}
 use Rattle.rules.specs.Prelude.{flag}
 
 pub flag_live : (b : Bool) → not (eqb (flag b) 0) ≡ b

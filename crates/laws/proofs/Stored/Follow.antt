@@ -1,5 +1,6 @@
 -- Following the links of a chain meets the rows of the chain: between the elements that lie in a table and the rows that are met there. Assumes nothing.
-use Rattle.numbers.specs.Library.{ℕ, ◌≤◌, ◌<◌, ◌≡◌, refl, sym, ap, ◌∙◌, List, [], ◌∷◌, map, List·Memᴰ·head, List·Memᴰ·tail}
+use Rattle.std.specs.Prelude.{◌≤◌, ◌<◌, ◌≡◌, ◌∷◌}
+use Rattle.numbers.specs.Library.{ℕ, refl, sym, ap, ◌∙◌, List, [], map, List·Memᴰ·head, List·Memᴰ·tail}
 use Rattle.numbers.specs.Prelude.{no_row}
 use Rattle.chains.specs.Prelude.{◌∈◌, Each, Kind, first_row, first_of, Chain, rows_from, Ends, Holds}
 use Rattle.chains.proofs.Prelude.{rows_of, ends_rows, ends_length}

@@ -1,8 +1,9 @@
 -- Tables that pass the audit can be cleared: the shelf chain goes through C columns, so it has C shelves or more, and each of them an item or more. And the
 -- header of a refused create or load passes neither check. Assumes nothing.
-use Rattle.numbers.specs.Library.{ℕ, ◌+◌, ◌≤◌, ◌≡◌, refl, Bool, true, false, List, [], ◌∷◌, List·Memᴰ·head, List·Memᴰ·tail, arith, length, length-append, eqb}
+use Rattle.std.specs.Prelude.{◌+◌, ◌≤◌, ◌≡◌, ◌∷◌}
+use Rattle.numbers.specs.Library.{ℕ, refl, Bool, true, false, List, [], List·Memᴰ·head, List·Memᴰ·tail, arith, length, length-append, eqb}
 use Rattle.numbers.specs.Prelude.{pick, columns}
-use Rattle.rows.specs.Prelude.{get, rows, items, shelves, zero_header}
+use Rattle.rows.specs.Prelude.{get, items, shelves, zero_header}
 use Rattle.rows.specs.declared.{header.Header.Header, shelf.ShelfRow.ShelfRow}
 use Rattle.chains.specs.Prelude.{◌∈◌, gather, Holds}
 use Rattle.chains.proofs.Prelude.{distinct_below}

@@ -1,6 +1,7 @@
 -- The free list of one shelf: rule 5 at the rows that are met, and the list as it lies in the table. Assumes nothing.
-use Rattle.numbers.specs.Library.{ℕ, ◌<◌, ◌≡◌, refl, ap, Bool, true, false, not, List, [], ◌∷◌, map, List·Memᴰ·head, List·Memᴰ·not-nil}
-use Rattle.numbers.specs.Library.{List·Memᴰ·eq-of-singleton, ◌≢◌, eqb, eqb-true, ne_eqb, not-true, not-false}
+use Rattle.std.specs.Prelude.{◌<◌, ◌≡◌, ◌∷◌, ◌≢◌}
+use Rattle.numbers.specs.Library.{ℕ, refl, ap, Bool, true, false, not, List, [], map, List·Memᴰ·head, List·Memᴰ·not-nil}
+use Rattle.numbers.specs.Library.{List·Memᴰ·eq-of-singleton, eqb, eqb-true, ne_eqb, not-true, not-false}
 use borrow.Author.Tests.{eqb-false}
 use Rattle.numbers.specs.Prelude.{pick}
 use Rattle.rows.specs.Prelude.{get, items, Links, links_of}

@@ -1,5 +1,6 @@
 -- The freed chains and the occupied total: rules 6 and 7 at the rows that are met, and what is read from them. Assumes nothing.
-use Rattle.numbers.specs.Library.{ℕ, ◌*◌, ◌<◌, ◌≡◌, refl, sym, ap, ◌∙◌, Bool, true, false, not, List, [], ◌∷◌, map, eqb}
+use Rattle.std.specs.Prelude.{◌*◌, ◌<◌, ◌≡◌, ◌∷◌}
+use Rattle.numbers.specs.Library.{ℕ, refl, sym, ap, ◌∙◌, Bool, true, false, not, List, [], map, eqb}
 use Rattle.numbers.specs.Prelude.{pick}
 use Rattle.rows.specs.Prelude.{get, items, with_item_next, with_generation, shelves, with_shelf_next}
 use Rattle.pool.specs.Pool.{freed_shelf_row, freed_item_row}

@@ -1,5 +1,6 @@
 -- Where the seven rules hold, the atlas that is met in the tables lies there, and keeps what an atlas keeps. Assumes nothing.
-use Rattle.numbers.specs.Library.{ℕ, ◌+◌, ◌≡◌, refl, sym, ap, ◌∙◌, List, map, arith}
+use Rattle.std.specs.Prelude.{◌+◌, ◌≡◌}
+use Rattle.numbers.specs.Library.{ℕ, refl, sym, ap, ◌∙◌, List, map, arith}
 use Rattle.numbers.specs.Prelude.{no_row}
 use Rattle.rows.specs.Prelude.{get, items, shelves, links_of}
 use Rattle.rows.specs.declared.header.Header.{Header}

@@ -1,5 +1,6 @@
 -- The items of one shelf: rule 3 at the rows that are met, and the items read from those rows. Assumes nothing.
-use Rattle.numbers.specs.Library.{ℕ, ◌≤◌, ◌%◌, ◌≡◌, refl, sym, ap, ◌∙◌, false, not, ◌&&◌, List, [], ◌∷◌, map, arith, eqb}
+use Rattle.std.specs.Prelude.{◌≤◌, ◌%◌, ◌≡◌, ◌&&◌, ◌∷◌}
+use Rattle.numbers.specs.Library.{ℕ, refl, sym, ap, ◌∙◌, false, not, List, [], map, arith, eqb}
 use mathlib.Core.Bool.{not-not}
 use Rattle.numbers.specs.Prelude.{no_row, along_step}
 use Rattle.rows.specs.Prelude.{get, items, Body, body_of}

@@ -1,5 +1,6 @@
 -- Lists of rows and what is read from each row. Assumes nothing.
-use Rattle.numbers.specs.Library.{ℕ, ◌≡◌, refl, List, [], ◌∷◌, map}
+use Rattle.std.specs.Prelude.{◌≡◌, ◌∷◌}
+use Rattle.numbers.specs.Library.{ℕ, refl, List, [], map}
 use Rattle.chains.specs.Prelude.{Each, gather, first_row, first_of}
 
 module _ {E : Type 0} (row : E → ℕ) (f : ℕ → E) where

@@ -1,7 +1,8 @@
 -- Numbers after the used rows are never read: tables of the same lengths whose used rows are alike get the same verdict, and the same atlas is met
 -- there. A walk that ends meets used rows only, so rules 2 and 3 go over with their walks; all the rules at once go over by the atlas, which lies
 -- in used rows only. Assumes nothing.
-use Rattle.numbers.specs.Library.{ℕ, ◌+◌, ◌<◌, ◌≡◌, sym, ap, ◌∙◌, ◌&&◌, List, dec_lt, arith, ltb, eqb, le-ltb}
+use Rattle.std.specs.Prelude.{◌+◌, ◌<◌, ◌≡◌, ◌&&◌}
+use Rattle.numbers.specs.Library.{ℕ, sym, ap, ◌∙◌, List, dec_lt, arith, ltb, eqb, le-ltb}
 use Rattle.numbers.specs.Prelude.{no_row}
 use Rattle.rows.specs.Prelude.{get, rows_long, items, shelves}
 use Rattle.rows.specs.declared.{header.Header.Header, shelf.ShelfRow.ShelfRow, item.ItemRow.ItemRow}

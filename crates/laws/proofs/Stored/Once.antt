@@ -1,6 +1,7 @@
 -- Rows that serve on the shelf chain and the item chains: distinct, used, with a depth or a width, flags 0 or 1. Rule 4 follows from rules 2 and 3:
 -- a chain that ends stands on distinct rows, and items name their shelf. Assumes nothing.
-use Rattle.numbers.specs.Library.{ℕ, ◌≤◌, ◌<◌, ◌≡◌, List, arith}
+use Rattle.std.specs.Prelude.{◌≤◌, ◌<◌, ◌≡◌}
+use Rattle.numbers.specs.Library.{ℕ, List, arith}
 use Rattle.numbers.specs.Prelude.{no_row}
 use Rattle.rows.specs.Prelude.{get, rows_few, items, shelves}
 use Rattle.rows.specs.declared.header.Header.{Header}

@@ -1,6 +1,7 @@
 -- The audit's seven rules over header and tables, and an atlas that lies there and keeps its rules, are one thing said twice; and such an atlas
 -- and the numbers that the audit reads tell each other. These are the statements that other crates cite. Assumes nothing.
-use Rattle.numbers.specs.Library.{ℕ, ◌≡◌, List}
+use Rattle.std.specs.Prelude.{◌≡◌}
+use Rattle.numbers.specs.Library.{ℕ, List}
 use Rattle.rows.specs.declared.header.Header.{Header}
 use Rattle.rules.specs.Prelude.{Atlas, Room, Stores, room_in, WellFormed, atlas_in, Rule1, Rule2, Rule3, Rule4, Passes}
 use Rattle.laws.specs.Same.{SameUsed, SameRead, SameVerdict}
@@ -27,11 +28,11 @@ module _ (h : Header) (S I : List ℕ) where
 
   -- where there is such an atlas, the audit passes
   pub passes : (a : Atlas) → Stores h S I a → WellFormed (room_in S I) a → Passes h S I
-  passes a l k = to-rules.passes-read h S I (rw (unique a l k) at l) (rw (unique a l k) at k)
+  passes a l k = to-rules.passes_read h S I (rw (unique a l k) at l) (rw (unique a l k) at k)
 
   -- rule 4 follows from the rules before it
   pub no_row_twice : Rule1 h S I → Rule2 h S I → Rule3 h S I → Rule4 h S I
-  no_row_twice one two three = once.no-row-twice one two three
+  no_row_twice one two three = once.no_row_twice one two three
 
 -- an atlas says every number that an audit of tables in which it lies reads
 pub determined : (h h' : Header) (S S' I I' : List ℕ) (room : Room) (a : Atlas) → Stores h S I a → Stores h' S' I' a → WellFormed room a → SameUsed h h' S S' I I'
@@ -40,7 +41,7 @@ determined h h' S S' I I' room a l l' k = determined-rows.determined h h' S S' I
 -- "Numbers after the used rows are never read": tables that differ in such numbers only get the same verdict, and the same atlas is met there
 module _ (h : Header) (S S' I I' : List ℕ) (same : SameRead h S S' I I') where
   pub same_verdict : SameVerdict h S S' I I'
-  same_verdict = never_read.same-verdict h S S' I I' same
+  same_verdict = never_read.same_verdict h S S' I I' same
 
   pub same_atlas : Passes h S I → atlas_in h S I ≡ atlas_in h S' I'
-  same_atlas p = never_read.same-atlas h S S' I I' same p
+  same_atlas p = never_read.same_atlas h S S' I I' same p

@@ -1,5 +1,6 @@
 -- The rows that serve in the atlas that is met are the rows that are met. Assumes nothing.
-use Rattle.numbers.specs.Library.{ℕ, ◌≡◌, refl, List, map}
+use Rattle.std.specs.Prelude.{◌≡◌}
+use Rattle.numbers.specs.Library.{ℕ, refl, List, map}
 use Rattle.rows.specs.declared.header.Header.{Header}
 use Rattle.rules.specs.Prelude.{Item, Shelf, Freed, shelf_rows_of, item_rows_of, all_item_rows, freed_rows, items_met, all_items_met, shelves_met, item_in_of, shelf_in, freed_in}
 use Rattle.laws.proofs.Stored.Lists.{rows-map, gather_map}

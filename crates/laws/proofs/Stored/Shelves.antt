@@ -1,5 +1,6 @@
 -- The shelf chain: rule 2 at the rows that are met, and the shelves read from those rows. Assumes nothing.
-use Rattle.numbers.specs.Library.{ℕ, ◌+◌, ◌*◌, ◌≤◌, ◌≡◌, refl, sym, ap, ◌∙◌, Bool, true, false, and-false, ◌&&◌, List, [], ◌∷◌, map, List·Memᴰ·head}
+use Rattle.std.specs.Prelude.{◌+◌, ◌*◌, ◌≤◌, ◌≡◌, ◌&&◌, ◌∷◌}
+use Rattle.numbers.specs.Library.{ℕ, refl, sym, ap, ◌∙◌, Bool, true, false, and-false, List, [], map, List·Memᴰ·head}
 use Rattle.numbers.specs.Library.{List·Memᴰ·tail, arith, eqb, lt-ltb, le-ltb, eq-eqb, ne_eqb}
 use mathlib.Core.Bool.{not-not, and-true}
 use Rattle.numbers.specs.Prelude.{no_row, pick, pick_ap, pick_same}

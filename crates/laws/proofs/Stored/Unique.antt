@@ -1,5 +1,6 @@
 -- An atlas that lies in a header and two tables is the one that is met there. Assumes nothing.
-use Rattle.numbers.specs.Library.{ℕ, ◌≤◌, ◌<◌, ◌≡◌, sym, ap, ◌∙◌, not, List, map, arith, eqb}
+use Rattle.std.specs.Prelude.{◌≤◌, ◌<◌, ◌≡◌}
+use Rattle.numbers.specs.Library.{ℕ, sym, ap, ◌∙◌, not, List, map, arith, eqb}
 use Rattle.numbers.specs.Prelude.{no_row}
 use Rattle.rows.specs.Prelude.{get, rows_few, items, with_item_next, with_generation, shelves, Body, body_of, links_of}
 use Rattle.pool.specs.Pool.{freed_item_row}
