@@ -1,6 +1,7 @@
 -- The five verdicts exclude one another: what the audit has decided where it gives one makes that one exact. And an exact verdict is a test of whether
 -- all rules hold. Assumes nothing.
-use Rattle.numbers.specs.Library.{◌≡◌, refl, ap, Bool, true, false, List, ℕ, arith}
+use Rattle.std.specs.Prelude.{◌≡◌}
+use Rattle.numbers.specs.Library.{refl, ap, Bool, true, false, List, ℕ, arith}
 use Rattle.rows.specs.declared.header.Header.{Header}
 use Rattle.numbers.specs.Prelude.{Decides, refuted}
 use Rattle.rules.specs.Prelude.{Rule1, Rule2, Rule3}

@@ -1,6 +1,7 @@
 -- "Numbers after the used rows are never read", for the verdict: it is given by which rules hold, and each rule holds for both of two states alike in
 -- their used rows or for neither, where the rules before it hold. So a verdict that is exact for one is exact for the other. Assumes nothing.
-use Rattle.numbers.specs.Library.{ℕ, ◌≡◌, List}
+use Rattle.std.specs.Prelude.{◌≡◌}
+use Rattle.numbers.specs.Library.{ℕ, List}
 use Rattle.rows.specs.declared.header.Header.{Header}
 use Rattle.chains.specs.Prelude.{◌iff◌}
 use Rattle.rules.specs.Prelude.{Rule1, Rule2, Rule3, Rule5, Rule6, Rule7}

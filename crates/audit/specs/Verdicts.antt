@@ -1,5 +1,6 @@
 -- What the audit answers: that all of document 01's rules hold, or the first that fails. Assumes nothing.
-use Rattle.numbers.specs.Library.{ℕ, ◌≡◌, refl, sym, List}
+use Rattle.std.specs.Prelude.{◌≡◌}
+use Rattle.numbers.specs.Library.{ℕ, refl, sym, List}
 use Rattle.rows.specs.declared.header.Header.{Header}
 use Rattle.chains.specs.Prelude.{◌iff◌}
 use Rattle.rules.specs.Prelude.{Rule1, Rule2, Rule3, Rule5, Rule6, Rule7}

@@ -1,4 +1,6 @@
 // The audit: whether any header and any two tables keep document 01's rules 1 to 7. It changes nothing, and needs no memory beside its locals.
+#![tactic(auto)]
+
 ghost use Rattle.numbers.specs.Prelude.{Decides};
 ghost use Rattle.rules.specs.Prelude.{Rule1, Passes, PassesForClear};
 ghost use Rattle.audit.specs.Verdicts.{Exact};
@@ -7,7 +9,7 @@ use rows::header::Header;
 use rows::{item, shelf};
 
 // The first rule that fails; of rules 5 to 7, that one of them does. Rule 4 follows from 2 and 3.
-#[derive(Drop)]
+#[derive(Clone, Copy)]
 pub enum Verdict {
     Passes,
     Rule1,

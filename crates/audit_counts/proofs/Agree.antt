@@ -1,5 +1,6 @@
 -- Where rules 2 and 3 hold, the lists agree with the totals exactly when rules 5 to 7 hold. Assumes nothing.
-use Rattle.numbers.specs.Library.{◌≡◌, sym, ap, ◌∙◌, ◌≢◌, List, ℕ, ◌+◌, ◌≤◌, ℕ_discrete, arith, eq-eqb, ne_eqb, length}
+use Rattle.std.specs.Prelude.{◌≡◌, ◌≢◌, ◌+◌, ◌≤◌}
+use Rattle.numbers.specs.Library.{sym, ap, ◌∙◌, List, ℕ, ℕ_discrete, arith, eq-eqb, ne_eqb, length}
 use Rattle.numbers.specs.Prelude.{no_row}
 use Rattle.rows.specs.Prelude.{get, items, Links, links_of}
 use Rattle.rows.specs.declared.{header.Header.Header, item.ItemRow.ItemRow}

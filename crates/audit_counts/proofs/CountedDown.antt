@@ -1,6 +1,7 @@
 -- Loops that are told how many rows a chain has: they go on for so many rows and then look whether the chain ends there. A free list, and the freed item
 -- rows. Assumes nothing.
-use Rattle.numbers.specs.Library.{◌≡◌, ◌≢◌, false, List, ◌∷◌, ℕ, ◌+◌, ◌-◌, ◌≤◌, ◌<◌, ℕ_discrete, arith, eqb, eqb-true, eq-eqb, length}
+use Rattle.std.specs.Prelude.{◌≡◌, ◌≢◌, ◌∷◌, ◌+◌, ◌-◌, ◌≤◌, ◌<◌}
+use Rattle.numbers.specs.Library.{false, List, ℕ, ℕ_discrete, arith, eqb, eqb-true, eq-eqb, length}
 use Rattle.numbers.specs.Prelude.{Decides, refuted, no_row}
 use Rattle.pool.specs.Pool.{FreedItem}
 use Rattle.rows.specs.Prelude.{get, items}

@@ -1,6 +1,7 @@
 -- A shelf whose items are right is one free item exactly when no live width stands on it: so the width of its free items tells its empty flag.
 -- Assumes nothing.
-use Rattle.numbers.specs.Library.{◌≡◌, refl, sym, ap, ◌∙◌, ◌≢◌, Bool, true, false, ◌&&◌, and-false, List, [], ◌∷◌, ℕ, ◌+◌, ◌≤◌, ℕ_discrete, arith}
+use Rattle.std.specs.Prelude.{◌≡◌, ◌≢◌, ◌&&◌, ◌∷◌, ◌+◌, ◌≤◌}
+use Rattle.numbers.specs.Library.{refl, sym, ap, ◌∙◌, Bool, true, false, and-false, List, [], ℕ, ℕ_discrete, arith}
 use Rattle.numbers.specs.Library.{lt-ltb, eq-eqb, eqb-true, ne_eqb, eqb}
 use Rattle.numbers.specs.Prelude.{no_row, pick, never}
 use Rattle.rows.specs.Prelude.{get, items}

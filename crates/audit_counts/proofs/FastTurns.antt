@@ -1,6 +1,7 @@
 -- One turn of the fast walk along a shelf's items. It is the exact walk's turn under a header with alignments of 1 (`loose`), with the widths or-ed
 -- beside it. Assumes nothing.
-use Rattle.numbers.specs.Library.{◌≡◌, refl, sym, ◌≢◌, true, List, ℕ, ◌+◌, ◌-◌, ◌%◌, ◌^◌, ◌≤◌, ◌<◌, arith, eq-eqb}
+use Rattle.std.specs.Prelude.{◌≡◌, ◌≢◌, ◌+◌, ◌-◌, ◌%◌, ◌^◌, ◌≤◌, ◌<◌}
+use Rattle.numbers.specs.Library.{refl, sym, true, List, ℕ, arith, eq-eqb}
 use lib.Bits.{bit_or}
 use Rattle.numbers.specs.Prelude.{no_row}
 use Rattle.rows.specs.Prelude.{get, items}

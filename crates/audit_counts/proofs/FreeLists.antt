@@ -1,5 +1,6 @@
 -- A shelf's free list: its members are free items of that shelf, no two alike; so the counts say whether it lacks none. Assumes nothing.
-use Rattle.numbers.specs.Library.{◌≡◌, refl, sym, ◌∙◌, Bool, true, false, not, List, [], ◌∷◌, map, ℕ, ◌≤◌, ◌<◌, arith, eqb, length, length-append}
+use Rattle.std.specs.Prelude.{◌≡◌, ◌∷◌, ◌≤◌, ◌<◌}
+use Rattle.numbers.specs.Library.{refl, sym, ◌∙◌, Bool, true, false, not, List, [], map, ℕ, arith, eqb, length, length-append}
 use Rattle.numbers.specs.Prelude.{no_row, pick}
 use Rattle.rows.specs.Prelude.{get, items, shelves}
 use Rattle.rows.specs.declared.header.Header.{Header}

@@ -1,7 +1,8 @@
 -- A free list along which no width is asked. Its rows have one all the same, where every used row serves or is freed: a freed row is zero, so both
 -- its free links would name row 0, and no row stands both before and after another in a chain. Assumes nothing.
-use Rattle.numbers.specs.Library.{◌≡◌, refl, sym, ap, ◌∙◌, ◌≢◌, ⊎_elim, List, [], ◌∷◌, List·Memᴰ·head, List·Memᴰ·tail, List·Memᴰ·not-nil, List·Memᴰ·cases-cons}
-use Rattle.numbers.specs.Library.{ℕ, ◌+◌, ◌≤◌, ◌<◌, arith, length}
+use Rattle.std.specs.Prelude.{◌≡◌, ◌≢◌, ◌∷◌, ◌+◌, ◌≤◌, ◌<◌}
+use Rattle.numbers.specs.Library.{refl, sym, ap, ◌∙◌, ⊎_elim, List, [], List·Memᴰ·head, List·Memᴰ·tail, List·Memᴰ·not-nil, List·Memᴰ·cases-cons}
+use Rattle.numbers.specs.Library.{ℕ, arith, length}
 use Rattle.numbers.specs.Prelude.{no_row}
 use Rattle.rows.specs.Prelude.{get, items, shelves, with_item_next, with_generation}
 use Rattle.pool.specs.Pool.{FreedItem, freed_item_row}

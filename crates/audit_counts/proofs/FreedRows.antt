@@ -1,6 +1,7 @@
 -- Freed rows that are zero are apart from serving rows, which are not; so the counts say whether they hold exactly the rows that serve nowhere.
 -- Assumes nothing.
-use Rattle.numbers.specs.Library.{◌≡◌, List, [], ◌∷◌, ℕ, ◌+◌, ◌≤◌, ◌<◌, arith, length}
+use Rattle.std.specs.Prelude.{◌≡◌, ◌∷◌, ◌+◌, ◌≤◌, ◌<◌}
+use Rattle.numbers.specs.Library.{List, [], ℕ, arith, length}
 use Rattle.numbers.specs.Prelude.{no_row}
 use Rattle.rows.specs.Prelude.{get, items, shelves}
 use Rattle.pool.specs.Pool.{FreedShelf, FreedItem}

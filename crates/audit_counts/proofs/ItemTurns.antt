@@ -1,6 +1,7 @@
 -- One turn along the items of a shelf, with what is counted there. The loop does not look whether steps are left: it counts them, and a count of
 -- more than the used rows is refused at its end (`Going`). Assumes nothing.
-use Rattle.numbers.specs.Library.{◌≡◌, refl, sym, ◌∙◌, ◌≢◌, Bool, true, false, ◌&&◌, and-false, false≢true, List, ℕ, ◌+◌, ◌-◌, ◌*◌, ◌≤◌, ◌<◌, dec_lt, arith}
+use Rattle.std.specs.Prelude.{◌≡◌, ◌≢◌, ◌&&◌, ◌+◌, ◌-◌, ◌*◌, ◌≤◌, ◌<◌}
+use Rattle.numbers.specs.Library.{refl, sym, ◌∙◌, Bool, true, false, and-false, false≢true, List, ℕ, dec_lt, arith}
 use Rattle.numbers.specs.Library.{eqb-true, eq-eqb, ne_eqb, eqb, length}
 use Rattle.numbers.specs.Prelude.{no_row, never, refuted}
 use Rattle.rows.specs.Prelude.{get, items}

@@ -1,5 +1,6 @@
 -- Loops that count the rows of a chain and ask something of each: a free list, the freed shelf rows, the freed item rows. Assumes nothing.
-use Rattle.numbers.specs.Library.{◌≡◌, refl, ◌≢◌, Bool, true, false, not, List, ℕ, ◌-◌, ◌≤◌, ◌<◌, arith, length}
+use Rattle.std.specs.Prelude.{◌≡◌, ◌≢◌, ◌-◌, ◌≤◌, ◌<◌}
+use Rattle.numbers.specs.Library.{refl, Bool, true, false, not, List, ℕ, arith, length}
 use Rattle.numbers.specs.Prelude.{Decides, never, refuted, denied, allowed, no_row}
 use Rattle.pool.specs.Pool.{FreedShelf, FreedItem}
 use Rattle.rows.specs.Prelude.{get, items, shelves}

@@ -1,6 +1,7 @@
 -- Sums over rows: of lists put together, with parts that agree, and added up by a loop along the rows that it meets (`Summing`). Assumes nothing.
-use Rattle.numbers.specs.Library.{◌≡◌, refl, ◌≢◌, ⊎_elim, List, [], ◌∷◌, ◌++◌, List·Memᴰ·head, List·Memᴰ·tail, List·Memᴰ·not-nil, List·Memᴰ·cases-cons, ℕ, ◌+◌}
-use Rattle.numbers.specs.Library.{◌-◌, ◌≤◌, arith, length, length-append}
+use Rattle.std.specs.Prelude.{◌≡◌, ◌≢◌, ◌∷◌, ◌++◌, ◌+◌, ◌-◌, ◌≤◌}
+use Rattle.numbers.specs.Library.{refl, ⊎_elim, List, [], List·Memᴰ·head, List·Memᴰ·tail, List·Memᴰ·not-nil, List·Memᴰ·cases-cons, ℕ}
+use Rattle.numbers.specs.Library.{arith, length, length-append}
 use Rattle.numbers.specs.Prelude.{no_row}
 use Rattle.chains.specs.Prelude.{◌∈◌, gather, rows_from}
 use Rattle.chains.proofs.Prelude.{met_step, met_end, met_out}

@@ -1,5 +1,6 @@
 -- One turn over the shelves, for what is asked of each of them by itself: their items, their free lists. Assumes nothing.
-use Rattle.numbers.specs.Library.{◌≡◌, refl, sym, ap, ◌∙◌, ◌≢◌, List, [], ◌∷◌, ℕ, ◌+◌, ◌-◌, ◌*◌, ◌≤◌, add-mul, mul-le-mul, arith, true, false, not, not-false}
+use Rattle.std.specs.Prelude.{◌≡◌, ◌≢◌, ◌∷◌, ◌+◌, ◌-◌, ◌*◌, ◌≤◌}
+use Rattle.numbers.specs.Library.{refl, sym, ap, ◌∙◌, List, [], ℕ, add-mul, mul-le-mul, arith, true, false, not, not-false}
 use Rattle.numbers.specs.Library.{eqb, length}
 use native.Mathlib.Nat.{zero-mul}
 use Rattle.numbers.specs.Prelude.{no_row, pick, pick_ap, denied, allowed}

@@ -1,6 +1,7 @@
 -- Widths that are or-ed together are tested against an alignment all at once, where it is a power of two: the low digits of the whole are 0
 -- exactly when those of each are. Assumes nothing.
-use Rattle.numbers.specs.Library.{◌≡◌, sym, ◌∙◌, ℕ, suc, ◌-◌, ◌/◌, ◌%◌, ◌^◌, ◌≤◌, ℕ_discrete, arith}
+use Rattle.std.specs.Prelude.{◌≡◌, ◌-◌, ◌/◌, ◌%◌, ◌^◌, ◌≤◌}
+use Rattle.numbers.specs.Library.{sym, ◌∙◌, ℕ, suc, ℕ_discrete, arith}
 use native.Mathlib.Nat.{pow-suc}
 use lib.Arith.{bin_ind}
 use lib.Bits.{bit_and, bit_or, and_step, and_self, and_le_l, and_le_r, or_mod, or_add_and}

@@ -1,6 +1,7 @@
 -- What the fast walk finds is enough for all the rules to hold. The walk goes by the loose header, which differs from the header in its alignments
 -- alone; after rule 1, only rule 3 asks for one: so the widths' alignment is all that is left to add. Assumes nothing.
-use Rattle.numbers.specs.Library.{◌≡◌, refl, ◌∙◌, List, ℕ, ◌+◌, ◌%◌, ◌^◌, arith, eqb, length}
+use Rattle.std.specs.Prelude.{◌≡◌, ◌+◌, ◌%◌, ◌^◌}
+use Rattle.numbers.specs.Library.{refl, ◌∙◌, List, ℕ, arith, eqb, length}
 use native.Mathlib.Nat.{mod-one}
 use Rattle.numbers.specs.Prelude.{pick_same, along_step}
 use Rattle.rows.specs.Prelude.{get, items, shelves}

@@ -1,6 +1,7 @@
 -- What the audit's walks decide and count: the items of a shelf, all the items, the free lists, the freed chains. From these counts follow rules
 -- 5 to 7 (proofs/Agree). `S` is the shelf table and `I` the item table throughout. Assumes nothing.
-use Rattle.numbers.specs.Library.{ℕ, ◌+◌, ◌-◌, ◌≤◌, ◌≡◌, true, List, eqb, length}
+use Rattle.std.specs.Prelude.{◌+◌, ◌-◌, ◌≤◌, ◌≡◌}
+use Rattle.numbers.specs.Library.{ℕ, true, List, eqb, length}
 use Rattle.numbers.specs.Prelude.{pick, no_row, Decides}
 use Rattle.rows.specs.Prelude.{get, items, shelves}
 use Rattle.pool.specs.Pool.{FreedShelf, FreedItem}

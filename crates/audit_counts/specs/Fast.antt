@@ -1,6 +1,7 @@
 -- What the fast walk finds, which can say yes and nothing else: one run along each shelf's items, which leaves the alignment of the widths to one test
 -- at its end. `I` is the item table throughout. Assumes nothing.
-use Rattle.numbers.specs.Library.{ℕ, ◌+◌, ◌%◌, ◌^◌, ◌≤◌, ◌<◌, ◌≡◌, List}
+use Rattle.std.specs.Prelude.{◌+◌, ◌%◌, ◌^◌, ◌≤◌, ◌<◌, ◌≡◌}
+use Rattle.numbers.specs.Library.{ℕ, List}
 use Rattle.std.specs.Int.Bits.{bit_or}
 use Rattle.numbers.specs.Prelude.{no_row}
 use Rattle.rows.specs.Prelude.{get, items}

@@ -1,9 +1,10 @@
 // What the audit's walks decide and count, as the code hands it on. The crate has no function: its definitions and theorems say what the counts are, and
 // why rules 5 to 7 follow from them.
+#![tactic(auto)]
 
 // Whether a shelf's items are right, and then how many they are, how many of them are free, how wide the live ones are together, and how far the
 // free links of the live ones are from none.
-#[derive(Drop)]
+#[derive(Clone, Copy)]
 pub struct Tally {
     pub right: bool,
     pub count: u32,
@@ -13,7 +14,7 @@ pub struct Tally {
 }
 
 // The same of all the shelves, with the number of shelves, and the live area in place of the width.
-#[derive(Drop)]
+#[derive(Clone, Copy)]
 pub struct Totals {
     pub right: bool,
     pub shelves: u32,
@@ -24,7 +25,7 @@ pub struct Totals {
 }
 
 // Whether the rows of a chain are right, and then how many they are.
-#[derive(Drop)]
+#[derive(Clone, Copy)]
 pub struct Counted {
     pub right: bool,
     pub count: u32,

@@ -1,5 +1,6 @@
 -- The flag of a shelf by the width of its free items. Assumes nothing.
-use Rattle.numbers.specs.Library.{◌≡◌, ◌≢◌, refl, sym, Bool, true, false, and-false, false≢true, List, ℕ, ◌≤◌, arith, eqb, eqb-true, eq-eqb, ne_eqb}
+use Rattle.std.specs.Prelude.{◌≡◌, ◌≢◌, ◌≤◌}
+use Rattle.numbers.specs.Library.{refl, sym, Bool, true, false, and-false, false≢true, List, ℕ, arith, eqb, eqb-true, eq-eqb, ne_eqb}
 use Rattle.numbers.specs.Prelude.{Decides}
 use Rattle.rows.specs.Prelude.{items, item_capacity, rows_few}
 use Rattle.rows.specs.declared.{header.Header.Header, shelf.ShelfRow.ShelfRow}

@@ -1,5 +1,6 @@
 -- One turn over the shelves, with all that the fast walk finds of each. Assumes nothing.
-use Rattle.numbers.specs.Library.{◌≡◌, refl, sym, ap, ◌∙◌, ◌≢◌, true, List, ℕ, ◌+◌, ◌-◌, ◌*◌, ◌%◌, ◌^◌, ◌≤◌, arith, length}
+use Rattle.std.specs.Prelude.{◌≡◌, ◌≢◌, ◌+◌, ◌-◌, ◌*◌, ◌%◌, ◌^◌, ◌≤◌}
+use Rattle.numbers.specs.Library.{refl, sym, ap, ◌∙◌, true, List, ℕ, arith, length}
 use Rattle.numbers.specs.Prelude.{no_row}
 use Rattle.rows.specs.Prelude.{get, shelves}
 use Rattle.rows.specs.declared.{header.Header.Header, shelf.ShelfRow.ShelfRow}
@@ -11,7 +12,6 @@ use Rattle.audit_counts.specs.Fast.{loose, odd_of, Even}
 use Rattle.audit_counts.proofs.Sums.{Summing, sums, summed_as, sum-ended, length-gather}
 use Rattle.audit_counts.proofs.TotalTurns.{AtTotals, totals_begin, past_items, totals_ended}
 use Rattle.fast_items.specs.declared.Walked.{Walked}
-use Rattle.audit_fast.specs.declared.Found.{Found}
 use Rattle.audit_fast.specs.Found.{ShelfFound, ShelvesFound}
 
 -- the free list of the shelf in row `on`

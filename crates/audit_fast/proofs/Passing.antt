@@ -1,5 +1,6 @@
 -- Where all that the fast walk asks for is found, the rules hold. Assumes nothing.
-use Rattle.numbers.specs.Library.{◌≡◌, refl, inl, inr, Bool, true, false, List, ℕ, ◌≤◌, eqb}
+use Rattle.std.specs.Prelude.{◌≡◌, ◌≤◌}
+use Rattle.numbers.specs.Library.{refl, inl, inr, Bool, true, false, List, ℕ, eqb}
 use Rattle.numbers.specs.Prelude.{pick, along_step, first_axis, WithinLimits}
 use Rattle.numbers.specs.declared.limits.Limits.{Limits}
 use Rattle.rows.specs.declared.header.Header.{Header}

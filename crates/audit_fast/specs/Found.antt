@@ -1,5 +1,6 @@
 -- What the fast walk has found where it says yes: of one shelf, and of all of them. Assumes nothing.
-use Rattle.numbers.specs.Library.{ℕ, ◌+◌, ◌-◌, ◌%◌, ◌^◌, ◌≤◌, ◌<◌, ◌≡◌, ◌⊎◌, Bool, true, List, length}
+use Rattle.std.specs.Prelude.{◌+◌, ◌-◌, ◌%◌, ◌^◌, ◌≤◌, ◌<◌, ◌≡◌, ◌⊎◌}
+use Rattle.numbers.specs.Library.{ℕ, Bool, true, List, length}
 use Rattle.std.specs.Int.Bits.{bit_and}
 use Rattle.numbers.specs.Prelude.{along_step}
 use Rattle.rows.specs.Prelude.{get, shelves, items}

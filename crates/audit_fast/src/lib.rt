@@ -1,5 +1,7 @@
 // A fast yes: one walk over the shelves, their items and their free lists, which stops at the first thing that is not right. Where it says yes the exact
 // audit would too; where it says no, that has to be asked.
+#![tactic(auto)]
+
 ghost use Rattle.std.specs.Prelude.{eqb, ◌≡◌, ◌+◌, ◌≤◌};
 ghost use Rattle.numbers.specs.Prelude.{Decides, along_step};
 ghost use Rattle.rows.specs.Prelude.{item_capacity};
@@ -14,7 +16,7 @@ use rows::shelf::ShelfRow;
 use rows::{item, shelf};
 
 // Whether the shelf chain is right, and then how many shelves and items there are, the live area, and all widths, or-ed.
-#[derive(Drop)]
+#[derive(Clone, Copy)]
 pub struct Found {
     pub right: bool,
     pub shelves: u16,

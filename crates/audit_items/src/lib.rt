@@ -1,4 +1,6 @@
 // Rule 3: the items of each shelf. What rules 5 to 7 ask of the items is counted in the same pass.
+#![tactic(auto)]
+
 ghost use Rattle.std.specs.Prelude.{false, ◌≡◌, ◌+◌, ◌-◌, ◌%◌, ◌≤◌, eqb};
 ghost use Rattle.numbers.specs.Prelude.{Decides};
 ghost use Rattle.rows.specs.Prelude.{item_capacity};

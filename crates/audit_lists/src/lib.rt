@@ -1,4 +1,6 @@
 // Rules 5 to 7: the free lists and the freed chains, against what was counted along the item chains.
+#![tactic(auto)]
+
 ghost use Rattle.std.specs.Prelude.{◌≤◌};
 ghost use Rattle.numbers.specs.Prelude.{Decides};
 ghost use Rattle.rows.specs.Prelude.{item_capacity};

@@ -4,7 +4,7 @@ ghost use Rattle.std.specs.Prelude.{◌≤◌, length};
 // Where the name begins.
 pub const NAME: usize = 26;
 
-#[derive(Drop)]
+#[derive(Clone, Copy)]
 pub struct Case {
     // a: audit. c: clear's check. l: audit with the largest item table.
     pub ask: u8,

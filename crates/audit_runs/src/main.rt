@@ -1,4 +1,6 @@
 // Audits of sound, damaged and hostile tables: a line for each, with its verdict. The cases are the lines of standard input.
+#![tactic(auto)]
+
 mod case;
 mod tables;
 
@@ -6,21 +8,21 @@ ghost use Rattle.std.specs.Prelude.{◌≤◌, length};
 
 use audit::Verdict;
 use case::Case;
-use libc::{STDIN_FILENO, STDOUT_FILENO};
 use rows::header::Header;
+use std::io::Read;
 use tables::{FULL, HEADER, ITEMS, SHELVES};
 
-fn say(text: &[u8]) {
-    io::write_all(STDOUT_FILENO, text);
+fn say(rt: HostRuntime, text: &[u8]) {
+    let _ = rt.write_all(text);
 }
 
-fn told(v: Verdict) {
+fn told(rt: HostRuntime, v: Verdict) {
     match v {
-        Verdict::Passes => say(b"passes\n"),
-        Verdict::Rule1 => say(b"rule 1\n"),
-        Verdict::Rule2 => say(b"rule 2\n"),
-        Verdict::Rule3 => say(b"rule 3\n"),
-        Verdict::Rules5To7 => say(b"rules 5 to 7\n"),
+        Verdict::Passes => say(rt, b"passes\n"),
+        Verdict::Rule1 => say(rt, b"rule 1\n"),
+        Verdict::Rule2 => say(rt, b"rule 2\n"),
+        Verdict::Rule3 => say(rt, b"rule 3\n"),
+        Verdict::Rules5To7 => say(rt, b"rules 5 to 7\n"),
     }
 }
 
@@ -52,60 +54,60 @@ fn item_table(c: Case) -> [u16; ITEMS] {
     i
 }
 
-fn audit(c: Case) {
+fn audit(rt: HostRuntime, c: Case) {
     let s = shelf_table(c);
     let i = item_table(c);
     let shelves = &s[0..left(SHELVES, c.short_shelves)];
     let items = &i[0..left(ITEMS, c.short_items)];
-    told(audit::audit(header(c), shelves, items));
+    told(rt, audit::audit(header(c), shelves, items));
 }
 
-fn audit_full(h: Header, shelves: &[u16; SHELVES], items: &[u16; FULL]) {
-    told(audit::audit(h, shelves, items));
+fn audit_full(rt: HostRuntime, h: Header, shelves: &[u16; SHELVES], items: &[u16; FULL]) {
+    told(rt, audit::audit(h, shelves, items));
 }
 
 // The items at the front of the largest table.
-fn audit_large(c: Case) {
+fn audit_large(rt: HostRuntime, c: Case) {
     let s = tables::shelf_numbers(c.of);
     let mut i = [0u16; FULL];
     tables::put_items(&mut i, tables::item_numbers(c.of));
-    audit_full(header(c), &s, &i);
+    audit_full(rt, header(c), &s, &i);
 }
 
 // Whether tables can be cleared. What they hold is not asked.
-fn clear(c: Case) {
+fn clear(rt: HostRuntime, c: Case) {
     let s = [0u16; SHELVES];
     let i = [0u16; ITEMS];
     let shelves = &s[0..left(SHELVES, c.short_shelves)];
     let items = &i[0..left(ITEMS, c.short_items)];
     if audit::passes_for_clear(header(c), shelves, items) {
-        say(b"can be cleared\n");
+        say(rt, b"can be cleared\n");
     } else {
-        say(b"can't be cleared\n");
+        say(rt, b"can't be cleared\n");
     }
 }
 
-fn run(c: Case) {
+fn run(rt: HostRuntime, c: Case) {
     if c.ask == b'c' {
-        clear(c);
+        clear(rt, c);
     } else if c.ask == b'l' {
-        audit_large(c);
+        audit_large(rt, c);
     } else {
-        audit(c);
+        audit(rt, c);
     }
 }
 
 // A line that says what its columns hold is no case.
-fn run_line(line: &[u8]) {
+fn run_line(rt: HostRuntime, line: &[u8]) {
     if line.len() < case::NAME {
         return;
     }
     if line[0] == b'#' {
         return;
     }
-    say(&line[case::NAME..line.len()]);
-    say(b": ");
-    run(case::case_of(line));
+    say(rt, &line[case::NAME..line.len()]);
+    say(rt, b": ");
+    run(rt, case::case_of(line));
 }
 
 fn line_end(text: &[u8], from: usize) -> usize
@@ -123,17 +125,34 @@ fn line_end(text: &[u8], from: usize) -> usize
     e
 }
 
-fn run_lines(text: &[u8]) {
+fn run_lines(rt: HostRuntime, text: &[u8]) {
     let mut from: usize = 0;
     while from < text.len() {
         let end = line_end(text, from);
-        run_line(&text[from..end]);
+        run_line(rt, &text[from..end]);
         from = end + 1;
     }
 }
 
-fn main() {
+// Reads until `buf` is full, the input ends or a read fails, and says how many bytes stand at its start.
+fn read_full(rt: HostRuntime, buf: &mut [u8]) -> usize
+    ensures { result ≤ length buf.new }
+{
+    let mut done: usize = 0;
+    while done < buf.len() {
+        let Ok(n) = rt.stdin().read(&mut buf[done..]) else {
+            return done;
+        };
+        if n == 0 {
+            return done;
+        }
+        done += n;
+    }
+    done
+}
+
+fn main(rt: HostRuntime) {
     let mut table = [0u8; 8192];
-    let n = io::read_full(STDIN_FILENO, &mut table);
-    run_lines(&table[0..n]);
+    let n = read_full(rt, &mut table);
+    run_lines(rt, &table[0..n]);
 }

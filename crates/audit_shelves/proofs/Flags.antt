@@ -1,5 +1,6 @@
 -- What one shelf row says, for the tests that look at one: its flag, and that no two empty shelves adjoin. Assumes nothing.
-use Rattle.numbers.specs.Library.{◌≡◌, refl, sym, ◌≢◌, Bool, true, false, not, ◌&&◌, List, ℕ, ◌*◌, ◌≤◌, ◌<◌, mul-le-mul, eq-eqb, ne_eqb, lt-ltb, le-ltb}
+use Rattle.std.specs.Prelude.{◌≡◌, ◌≢◌, ◌&&◌, ◌*◌, ◌≤◌, ◌<◌}
+use Rattle.numbers.specs.Library.{refl, sym, Bool, true, false, not, List, ℕ, mul-le-mul, eq-eqb, ne_eqb, lt-ltb, le-ltb}
 use Rattle.numbers.specs.Prelude.{no_row, Decides, never}
 use Rattle.rows.specs.Prelude.{get, items}
 use Rattle.rows.specs.declared.{header.Header.Header, shelf.ShelfRow.ShelfRow}

@@ -1,5 +1,6 @@
 -- One turn along the shelf chain. Assumes nothing.
-use Rattle.numbers.specs.Library.{◌≡◌, ◌≢◌, false, List, ℕ, ◌+◌, ◌-◌, ◌≤◌, ◌<◌, eq-eqb, ne_eqb, eqb}
+use Rattle.std.specs.Prelude.{◌≡◌, ◌≢◌, ◌+◌, ◌-◌, ◌≤◌, ◌<◌}
+use Rattle.numbers.specs.Library.{false, List, ℕ, eq-eqb, ne_eqb, eqb}
 use Rattle.numbers.specs.Prelude.{no_row}
 use Rattle.rows.specs.Prelude.{get, shelves}
 use Rattle.rows.specs.declared.{header.Header.Header, shelf.ShelfRow.ShelfRow}

@@ -1,5 +1,6 @@
 -- What rule 2 asks of a shelf, in two parts: where it stands, and its flag. Assumes nothing.
-use Rattle.numbers.specs.Library.{ℕ, ◌+◌, ◌*◌, ◌≤◌, ◌≡◌, Bool, false, ◌&&◌, eqb}
+use Rattle.std.specs.Prelude.{◌+◌, ◌*◌, ◌≤◌, ◌≡◌, ◌&&◌}
+use Rattle.numbers.specs.Library.{ℕ, Bool, false, eqb}
 use Rattle.rows.specs.declared.{header.Header.Header, shelf.ShelfRow.ShelfRow}
 
 pub record ShelfPlaced (h : Header) (prev column y : ℕ) (s : ShelfRow) : Type 0 where

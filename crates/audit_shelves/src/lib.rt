@@ -1,4 +1,6 @@
 // Rule 2: the shelf chain.
+#![tactic(auto)]
+
 ghost use Rattle.std.specs.Prelude.{◌≡◌};
 ghost use Rattle.numbers.specs.Prelude.{Decides};
 ghost use Rattle.rules.specs.Prelude.{ShelfRight, Rule2, one_free_of, flag};

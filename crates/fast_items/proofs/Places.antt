@@ -1,5 +1,6 @@
 -- What every place keeps, past one more item. Assumes nothing.
-use Rattle.numbers.specs.Library.{ℕ, ◌≡◌, refl, sym, ap, ◌∙◌, ◌+◌, ◌-◌, ◌*◌, ◌≤◌, ◌<◌, List, ◌∷◌, length, arith}
+use Rattle.std.specs.Prelude.{◌≡◌, ◌≤◌, ◌<◌, ◌∷◌}
+use Rattle.numbers.specs.Library.{ℕ, refl, sym, ap, ◌∙◌, List, length, arith}
 use Rattle.numbers.specs.Prelude.{no_row}
 use Rattle.rows.specs.Prelude.{get, items, item_capacity, rows_few}
 use Rattle.rows.specs.declared.item.ItemRow.{ItemRow}

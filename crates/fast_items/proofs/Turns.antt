@@ -1,5 +1,6 @@
 -- One turn of `items_right`: a run of live items, then a free one, then the live one that has to follow it. Assumes nothing.
-use Rattle.numbers.specs.Library.{◌≡◌, refl, ◌≢◌, ap, true, false, List, [], ℕ, ◌+◌, ◌-◌, ◌≤◌, ◌<◌, arith, ltb, lt-ltb, le-ltb, dec_lt}
+use Rattle.std.specs.Prelude.{◌≡◌, ◌≢◌, ◌+◌, ◌-◌, ◌≤◌, ◌<◌}
+use Rattle.numbers.specs.Library.{refl, ap, true, false, List, [], ℕ, arith, ltb, lt-ltb, le-ltb, dec_lt}
 use Rattle.numbers.specs.Prelude.{no_row, pick, never}
 use Rattle.rows.specs.Prelude.{get, items}
 use Rattle.rows.specs.declared.{header.Header.Header, item.ItemRow.ItemRow, shelf.ShelfRow.ShelfRow}
@@ -8,7 +9,7 @@ use Rattle.audit_counts.specs.Fast.{LiveOf, FreeOf}
 use Rattle.audit_counts.proofs.FastTurns.{OnShelf, on_begins, on_free, on_live, on_lives, on_more, on_tallied, on_even, on_gap}
 use Rattle.fast_items.specs.declared.{Passed.Passed, Walked.Walked}
 use Rattle.fast_items.specs.Walks.{mark_of, start_of, passed, Near, Kept, LivesPast, EndsSo, Walks}
-use Rattle.fast_items.proofs.Places.{near_fits, few_behind, kept_told, passable}
+use Rattle.fast_items.proofs.Places.{near_fits, few_behind, kept_told}
 
 -- nothing is promised of no
 pub wrong : {h : Header} {I : List ℕ} {on : ℕ} {s : ShelfRow} {met all : ℕ} → Walks h I on s met all (record { right = false; count = 0; free = 0; gap = 0; widths = 0 })

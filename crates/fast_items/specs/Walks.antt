@@ -1,5 +1,6 @@
 -- What the walk of a shelf's items tells: where a run of live items ends, and what a shelf's items are if it says yes. Assumes nothing.
-use Rattle.numbers.specs.Library.{ℕ, ◌+◌, ◌-◌, ◌*◌, ◌%◌, ◌≤◌, ◌≡◌, true, List, length}
+use Rattle.std.specs.Prelude.{◌+◌, ◌-◌, ◌*◌, ◌%◌, ◌≤◌, ◌≡◌}
+use Rattle.numbers.specs.Library.{ℕ, true, List, length}
 use Rattle.std.specs.Int.Bits.{bit_or}
 use Rattle.numbers.specs.Prelude.{no_row}
 use Rattle.rows.specs.Prelude.{get, items, item_start}

@@ -1,4 +1,6 @@
 // The items of a shelf, in one walk that can say yes and nothing else. It leaves their alignment to one test at the end of all walks: widths are or-ed.
+#![tactic(auto)]
+
 ghost use Rattle.std.specs.Prelude.{◌≡◌, ◌≤◌};
 ghost use Rattle.numbers.specs.Prelude.{Decides};
 ghost use Rattle.rows.specs.Prelude.{item_capacity};
@@ -13,7 +15,7 @@ use rows::shelf::ShelfRow;
 
 // Where a walk along the items of a shelf has come to, if all was right: the row and where it starts, the row before, the place; how many items were
 // passed, on this shelf and on those before it, and their widths, or-ed.
-#[derive(Drop)]
+#[derive(Clone, Copy)]
 pub struct Passed {
     pub right: bool,
     pub cur: usize,
@@ -25,7 +27,7 @@ pub struct Passed {
 }
 
 // Whether the items are right, and then how many were passed up to here, how many of them are free and how wide these are together, and all widths, or-ed.
-#[derive(Drop)]
+#[derive(Clone, Copy)]
 pub struct Walked {
     pub right: bool,
     pub count: u32,

@@ -1,5 +1,7 @@
 // Rules 5 and 6 for the fast audit: a free list and the freed item rows, each walked for as many rows as are known to be due. So the end of a chain is
 // looked for once, and not at each row.
+#![tactic(auto)]
+
 ghost use Rattle.std.specs.Prelude.{◌≤◌, ◌≡◌, length};
 ghost use Rattle.numbers.specs.Prelude.{Decides};
 ghost use Rattle.rows.specs.Prelude.{item_capacity};

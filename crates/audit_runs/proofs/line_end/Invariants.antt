@@ -1,0 +1,10 @@
+-- `line_end` stays within the text.
+use Rattle.std.specs.Prelude.{◌-◌, ◌≤◌}
+use Rattle.numbers.specs.Library.{length}
+use Rattle.audit_runs.proofs.line_end.Given as goal
+
+abbrev pub invariant-loop-e : goal.invariant-loop-e
+invariant-loop-e l = (l.from ≤ l.e) × (l.e ≤ length l.text)
+
+abbrev pub decreases-loop-e : goal.decreases-loop-e
+decreases-loop-e l = length l.text - l.e
