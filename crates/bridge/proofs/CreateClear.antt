@@ -1,6 +1,7 @@
 -- Create and clear: what they leave is a fresh atlas, whatever stood in the tables before. A clear is a create with the limits of the header.
 -- Assumes nothing.
-use Rattle.numbers.specs.Library.{ℕ, ◌≤◌, List}
+use Rattle.std.specs.Prelude.{◌≤◌}
+use Rattle.numbers.specs.Library.{ℕ, List}
 use Rattle.numbers.specs.declared.limits.Limits.{Limits}
 use Rattle.numbers.specs.Prelude.{columns, WithinLimits}
 use Rattle.rows.specs.Prelude.{rows, items, shelves}

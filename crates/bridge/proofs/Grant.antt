@@ -1,6 +1,7 @@
 -- A grant as a whole. From the plan at the place that the search holds, with rows enough left for it, the step leads to the atlas that the rules make,
 -- and what the plan tells is the rules' answer. Assumes nothing.
-use Rattle.numbers.specs.Library.{ℕ, ◌+◌, ◌-◌, ◌≤◌, ◌<◌, ◌≡◌, refl, sym, ap, ◌∙◌, subst, inl, inr, Bool, true, false, ◌||◌, List, [], ◌∷◌, List·Memᴰ·head, arith, ltb, length, ltb-false}
+use Rattle.std.specs.Prelude.{◌+◌, ◌-◌, ◌≤◌, ◌<◌, ◌≡◌, ◌||◌, ◌∷◌}
+use Rattle.numbers.specs.Library.{ℕ, refl, sym, ap, ◌∙◌, subst, inl, inr, Bool, true, false, List, [], List·Memᴰ·head, arith, ltb, length, ltb-false}
 use native.Mathlib.Nat.{mul-le-mul_left}
 use Rattle.numbers.specs.declared.request.Asked.{Asked}
 use Rattle.numbers.specs.Prelude.{pick, Placeable, most_area}

@@ -1,6 +1,7 @@
 -- The item of a grant, once its shelf fits: what the rules make of it, and that the step writes rows in use only. What stands in the tables then is in
 -- `Items/WholeOrPart`. Assumes nothing.
-use Rattle.numbers.specs.Library.{◌≤◌, ◌<◌, ◌≡◌, refl, ap, ◌∙◌, inl, inr, ℕ, Bool, true, false, List, [], ◌∷◌, List·Memᴰ·head, Memᴰ·append-left, arith}
+use Rattle.std.specs.Prelude.{◌≤◌, ◌<◌, ◌≡◌, ◌∷◌}
+use Rattle.numbers.specs.Library.{refl, ap, ◌∙◌, inl, inr, ℕ, Bool, true, false, List, [], List·Memᴰ·head, Memᴰ·append-left, arith}
 use Rattle.numbers.specs.Prelude.{pick}
 use Rattle.numbers.specs.declared.request.Asked.{Asked}
 use Rattle.chains.specs.Prelude.{◌∈◌, Each, Focus, back_onto}

@@ -1,6 +1,7 @@
 -- Which rows a grant writes: item rows in use, the one that it takes into use among them, and one shelf row. So all past them stays as it was.
 -- Assumes nothing.
-use Rattle.numbers.specs.Library.{ℕ, ◌+◌, ◌≤◌, ◌<◌, ◌≡◌, refl, ◌⊎◌, inl, inr, List, [], ◌∷◌, List·Memᴰ·head, ℕ_discrete, arith}
+use Rattle.std.specs.Prelude.{◌+◌, ◌≤◌, ◌<◌, ◌≡◌, ◌⊎◌, ◌∷◌}
+use Rattle.numbers.specs.Library.{ℕ, refl, inl, inr, List, [], List·Memᴰ·head, ℕ_discrete, arith}
 use Rattle.numbers.specs.declared.index.ItemIndex.{ItemIndex}
 use Rattle.rows.specs.Prelude.{rows, Past, past_same, past_change, items, shelves}
 use Rattle.pool.specs.Pool.{new_item, add_item, new_generation}

@@ -1,6 +1,6 @@
 -- The relation that is shown of each step: it leads from one state to another in which an atlas stands, and all past that atlas's used rows stays as
 -- it was. Such steps compose. Assumes nothing.
-use Rattle.numbers.specs.Library.{◌≤◌}
+use Rattle.std.specs.Prelude.{◌≤◌}
 use Rattle.rows.specs.Prelude.{Past, past_same, past_more, past_then, items, shelves}
 use Rattle.rules.specs.Prelude.{Atlas}
 use Rattle.shelf_edits.specs.State.{State}

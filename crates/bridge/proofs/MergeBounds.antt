@@ -1,6 +1,7 @@
 -- Two bounds on what the merges of a release do: as many rows stay in use as there were, and shelves that are merged are together no deeper than the
 -- one that is left, so that their depth fits a row where that one's does. Assumes nothing.
-use Rattle.numbers.specs.Library.{ℕ, ◌+◌, ◌≤◌, ◌≡◌, refl, sym, ap, ◌∙◌, true, false, false≢true, List, [], ◌∷◌, arith}
+use Rattle.std.specs.Prelude.{◌+◌, ◌≤◌, ◌≡◌, ◌∷◌}
+use Rattle.numbers.specs.Library.{ℕ, refl, sym, ap, ◌∙◌, true, false, false≢true, List, [], arith}
 use Rattle.rules.specs.Prelude.{Item, Shelf, Rows, Loose, Stack, freeing, free_item_row, free_shelf_row, free_shelf, deeper, joins, merge_next, merge_into, merge_below}
 use Rattle.rules.specs.Prelude.{merge_above}
 use Rattle.laws.proofs.Shape.Merging.{next_cases, into_cases, below_cases, above_cases}

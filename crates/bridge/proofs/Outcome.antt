@@ -1,6 +1,7 @@
 -- What follows from what a call leaves. An atlas in shape that a step leads to is the one that an audit of the tables then meets; and an outcome is
 -- told by its atlas, but for the numbers after the used rows. Assumes nothing.
-use Rattle.numbers.specs.Library.{ℕ, ◌≤◌, ◌≡◌, sym, ap, ◌∙◌, List, arith}
+use Rattle.std.specs.Prelude.{◌≤◌, ◌≡◌}
+use Rattle.numbers.specs.Library.{ℕ, sym, ap, ◌∙◌, List, arith}
 use Rattle.rows.specs.Prelude.{Past, items, shelves}
 use Rattle.rows.specs.declared.header.Header.{Header}
 use Rattle.rules.specs.Prelude.{Atlas, Stores, room_in, WellFormed, Shaped, atlas_in, Becomes}

@@ -1,6 +1,7 @@
 -- What comes of a search, in the tables as in the rules: answer 6 where it holds nothing, answer 7 where the rows left don't suffice for the place that
 -- it holds, and else that place, where the rules grant too. Assumes nothing.
-use Rattle.numbers.specs.Library.{ℕ, ◌≡◌, refl, sym, ap, ◌∙◌, subst, ◌⊎◌, inl, inr, ⊎_elim, Bool, true, false, not, some, List, [], arith}
+use Rattle.std.specs.Prelude.{◌≡◌, ◌⊎◌}
+use Rattle.numbers.specs.Library.{ℕ, refl, sym, ap, ◌∙◌, subst, inl, inr, ⊎_elim, Bool, true, false, not, some, List, [], arith}
 use Rattle.numbers.specs.declared.request.Asked.{Asked}
 use Rattle.chains.specs.Prelude.{Focus, first_row}
 use Rattle.rows.specs.Prelude.{get, items, shelves, body_of}

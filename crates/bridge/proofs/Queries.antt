@@ -1,7 +1,8 @@
 -- The answers of the calls that change nothing: look-up, list, totals, size and is_empty; and of a release of an id that names no live item.
 -- Assumes nothing.
-use Rattle.numbers.specs.Library.{ℕ, zero, suc, ◌+◌, ◌*◌, ◌≤◌, ◌<◌, ◌≡◌, refl, sym, ap, ◌∙◌, Bool, true, false, not, ◌&&◌, false≢true, Option, none, some, List}
-use Rattle.numbers.specs.Library.{[], ◌∷◌, arith, mul-le-mul, eqb, ne_eqb}
+use Rattle.std.specs.Prelude.{◌+◌, ◌*◌, ◌≤◌, ◌<◌, ◌≡◌, ◌&&◌, ◌∷◌}
+use Rattle.numbers.specs.Library.{ℕ, zero, suc, refl, sym, ap, ◌∙◌, Bool, true, false, not, false≢true, Option, none, some, List}
+use Rattle.numbers.specs.Library.{[], arith, mul-le-mul, eqb, ne_eqb}
 use Rattle.numbers.specs.Prelude.{pick, first_axis, second_axis, space_left}
 use Rattle.numbers.specs.declared.limits.Limits.{Limits}
 use Rattle.rows.specs.declared.header.Header.{Header}
@@ -58,7 +59,7 @@ module _ (h : Header) (S I : List ℕ) (p : Passes h S I) (row generation : ℕ)
 
 module _ (h : Header) (S I : List ℕ) (p : Passes h S I) where
   pub rows_there : LiveRowsThere h S I
-  rows_there = at-look-up.rows-there h S I (atlas_in h S I) (reads h S I p) (formed h S I p)
+  rows_there = at-look-up.rows_there h S I (atlas_in h S I) (reads h S I p) (formed h S I p)
 
   pub list_is : list (atlas_in h S I) ≡ rows_listed h S I h.used_items
   list_is = list_says h S I (atlas_in h S I) (reads h S I p) (formed h S I p)

@@ -1,7 +1,8 @@
 -- A release as a whole, in two steps: the item is made free and merged with its neighbours on its shelf, then the shelf, where that left it empty, with
 -- the empty shelves around it. Header and tables in which the atlas is stored have what that asks (`releasable`), and what both steps leave there is the
 -- atlas that the rules make. Assumes nothing.
-use Rattle.numbers.specs.Library.{ℕ, ◌≤◌, ◌<◌, ◌≡◌, refl, sym, ap, ◌∙◌, subst, inr, true, some, List, [], ◌∷◌, List·Memᴰ·head, Memᴰ·append-left, arith}
+use Rattle.std.specs.Prelude.{◌≤◌, ◌<◌, ◌≡◌, ◌∷◌}
+use Rattle.numbers.specs.Library.{ℕ, refl, sym, ap, ◌∙◌, subst, inr, true, some, List, [], List·Memᴰ·head, Memᴰ·append-left, arith}
 use Rattle.numbers.specs.declared.{index.ItemIndex.ItemIndex, index.ShelfIndex.ShelfIndex}
 use Rattle.chains.specs.Prelude.{◌∈◌, back_onto, first_row}
 use Rattle.chains.proofs.Prelude.{in_onto, each_split, self}

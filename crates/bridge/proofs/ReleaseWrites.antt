@@ -1,5 +1,6 @@
 -- Which rows a release writes before shelves are merged: item rows in use, and one shelf row. So all past them stays as it was. Assumes nothing.
-use Rattle.numbers.specs.Library.{ℕ, ◌<◌, ◌≡◌, inl}
+use Rattle.std.specs.Prelude.{◌<◌, ◌≡◌}
+use Rattle.numbers.specs.Library.{ℕ, inl}
 use Rattle.numbers.specs.declared.{index.ItemIndex.ItemIndex, index.ShelfIndex.ShelfIndex}
 use Rattle.rows.specs.Prelude.{Past, past_same, past_change, items, shelves, item_at}
 use Rattle.shelf_edits.specs.State.{State}

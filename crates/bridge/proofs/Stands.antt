@@ -1,6 +1,7 @@
 -- What it is for an atlas to stand in a state, that is a header and two tables: it is stored there, and each row in use serves once. With it, what
 -- a step may rely on: the rows in use are there, none is the index that names no row, and a shelf's row says what the shelf is. Assumes nothing.
-use Rattle.numbers.specs.Library.{ℕ, ◌<◌, ◌≤◌, ◌≡◌, refl, ap, ◌≢◌, ◌⊎◌, inl, inr, true, List, [], ◌∷◌, List·Memᴰ·head, arith, ltb, lt-ltb}
+use Rattle.std.specs.Prelude.{◌<◌, ◌≤◌, ◌≡◌, ◌≢◌, ◌⊎◌, ◌∷◌}
+use Rattle.numbers.specs.Library.{ℕ, refl, ap, inl, inr, true, List, [], List·Memᴰ·head, arith, ltb, lt-ltb}
 use Rattle.numbers.specs.declared.index.ShelfIndex.{ShelfIndex}
 use Rattle.numbers.specs.Prelude.{no_row}
 use Rattle.chains.specs.Prelude.{◌∈◌, back_onto, first_row}

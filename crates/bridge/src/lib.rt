@@ -1,1 +1,2 @@
 // The steps on tables refine the rules; no code.
+#![tactic(auto)]

@@ -1,5 +1,6 @@
 -- A grant as it was planned: shelf and item are split where the plan says so, and the item is live. Nothing is decided here. Assumes nothing.
-use Rattle.numbers.specs.Library.{ℕ, ◌*◌, ◌<◌, ◌≡◌, ap, Bool, true, false, List, length}
+use Rattle.std.specs.Prelude.{◌*◌, ◌<◌, ◌≡◌}
+use Rattle.numbers.specs.Library.{ℕ, ap, Bool, true, false, List, length}
 use Rattle.numbers.specs.Prelude.{pick}
 use Rattle.numbers.specs.declared.index.ItemIndex.{ItemIndex}
 use Rattle.rows.specs.Prelude.{rows, rows_long, items, shelves, Linked, with_occupied, change_item, change_shelf}

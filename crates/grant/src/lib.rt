@@ -1,4 +1,6 @@
 // A grant written as it was planned. Nothing is decided here, and no row is read that the plan has.
+#![tactic(auto)]
+
 ghost use Rattle.std.specs.Prelude.{◌≡◌, ◌<◌};
 ghost use Rattle.rows.specs.Prelude.{shelf_capacity};
 ghost use Rattle.shelf_edits.specs.State.{state, Are};

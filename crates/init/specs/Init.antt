@@ -1,5 +1,6 @@
 -- Create and clear: rows 0 to C - 1 of both tables written, and the header of a fresh atlas. Assumes nothing.
-use Rattle.numbers.specs.Library.{ℕ, zero, suc, ◌+◌, ◌-◌, ◌≡◌, refl, ◌∙◌, List, add-one, arith, ltb, length}
+use Rattle.std.specs.Prelude.{◌+◌, ◌-◌, ◌≡◌}
+use Rattle.numbers.specs.Library.{ℕ, zero, suc, refl, ◌∙◌, List, add-one, arith, ltb, length}
 use Rattle.numbers.specs.Prelude.{pick, no_row, no_item, no_shelf}
 use Rattle.numbers.specs.declared.limits.Limits.{Limits}
 use Rattle.rows.specs.Prelude.{Shape, put, length-put, items, with_generation, shelves, zero_shelf, with_shelf_x, with_height, with_shelf_prev, with_shelf_next}

@@ -1,4 +1,6 @@
 // Create and clear: the first rows of both tables written, and the header of a fresh atlas.
+#![tactic(auto)]
+
 ghost use Rattle.std.specs.Prelude.{◌≡◌};
 ghost use Rattle.init.specs.Init.{row_before, row_after, fresh_shelf_row, fresh_item_row, fresh_shelf_table, fresh_item_table, fresh_header};
 

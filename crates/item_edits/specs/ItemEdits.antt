@@ -1,6 +1,7 @@
 -- The changes of an item table from which every grant and release is made. Each reads the rows that it needs, and changes what it names;
 -- where there is no such row, zeros are read and nothing is written. Assumes nothing.
-use Rattle.numbers.specs.Library.{ℕ, ◌≡◌, refl, ◌∙◌, List, eqb}
+use Rattle.std.specs.Prelude.{◌≡◌}
+use Rattle.numbers.specs.Library.{ℕ, refl, ◌∙◌, List, eqb}
 use Rattle.numbers.specs.Prelude.{pick, no_item}
 use Rattle.numbers.specs.declared.{index.ItemIndex.ItemIndex, index.ShelfIndex.ShelfIndex}
 use Rattle.rows.specs.Prelude.{rows, rows-put, rows-change, unseen, items, zero_item, item_at, change_item, with_item_x, with_width, with_item_prev, with_item_next}

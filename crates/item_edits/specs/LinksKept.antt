@@ -1,6 +1,7 @@
 -- An edit of the item table writes the row that it is given and rows that links lead to, and writes links that it has read. So a table whose links lead
 -- to the first n rows only, or to none, stays such a one. Assumes nothing.
-use Rattle.numbers.specs.Library.{ℕ, ◌<◌, refl, inl, inr, List}
+use Rattle.std.specs.Prelude.{◌<◌}
+use Rattle.numbers.specs.Library.{ℕ, refl, inl, inr, List}
 use Rattle.numbers.specs.Prelude.{no_item}
 use Rattle.numbers.specs.declared.index.ItemIndex.{ItemIndex}
 use Rattle.rows.specs.Prelude.{get, items, Below, Linked, LinksWithin, linked-at, within-put, within-change, with_width, with_item_x, with_item_prev, with_item_next}

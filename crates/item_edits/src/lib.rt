@@ -1,4 +1,6 @@
 // The changes of an item table from which every grant and release is made.
+#![tactic(auto)]
+
 ghost use Rattle.std.specs.Prelude.{◌≡◌};
 ghost use Rattle.rows.specs.Prelude.{item_capacity, item_at, change_item, with_item_prev, with_prev_free, with_next_free, Below, Linked};
 ghost use Rattle.pool.specs.Pool.{added_item, item_freed};

@@ -1,5 +1,6 @@
 -- Live items in the tables: whether an id names one, what an answer tells of one, its area, and the live rows by rising row. Assumes nothing.
-use Rattle.numbers.specs.Library.{ℕ, zero, suc, ◌+◌, ◌-◌, ◌*◌, ◌≤◌, ◌<◌, ◌≡◌, refl, Bool, true, false, ◌&&◌, List, [], ◌∷◌, ◌++◌, arith, ltb, eqb, ltb-true, eqb-true}
+use Rattle.std.specs.Prelude.{◌+◌, ◌-◌, ◌*◌, ◌≤◌, ◌<◌, ◌≡◌, ◌&&◌, ◌∷◌, ◌++◌}
+use Rattle.numbers.specs.Library.{ℕ, zero, suc, refl, Bool, true, false, List, [], arith, ltb, eqb, ltb-true, eqb-true}
 use Rattle.numbers.specs.Prelude.{pick, both, first_axis, second_axis}
 use Rattle.numbers.specs.declared.index.ItemIndex.{ItemIndex}
 use Rattle.rows.specs.Prelude.{item_capacity, item_at, shelf_capacity, shelf_at_of}

@@ -1,4 +1,6 @@
 // Live items: whether an id names one, what an answer tells of one, its area, and the live rows by rising row.
+#![tactic(auto)]
+
 ghost use Rattle.std.specs.Prelude.{◌≡◌, ◌≤◌, ◌<◌};
 ghost use Rattle.rows.specs.Prelude.{item_capacity, item_at, shelf_capacity, shelf_at_of};
 ghost use Rattle.live_rows.specs.Live.{is_live_of, live_of_rows, live_at, area_at, is_vacant, live_one, live_count};

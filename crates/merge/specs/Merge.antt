@@ -1,5 +1,6 @@
 -- A live item released: it is merged with its free neighbours, and an emptied shelf with its empty ones. Assumes nothing.
-use Rattle.numbers.specs.Library.{ℕ, Bool, ◌&&◌, List, eqb}
+use Rattle.std.specs.Prelude.{◌&&◌}
+use Rattle.numbers.specs.Library.{ℕ, Bool, List, eqb}
 use Rattle.numbers.specs.Prelude.{pick}
 use Rattle.numbers.specs.declared.{index.ItemIndex.ItemIndex, index.ShelfIndex.ShelfIndex}
 use Rattle.rows.specs.Prelude.{with_occupied, item_at, shelf_at_of, change_shelf}

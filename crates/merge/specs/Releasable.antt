@@ -1,6 +1,7 @@
 -- What a release asks of header and tables, so that no step of it has to test whether a row is there. Tables that pass the audit have it for each live
 -- item (`releasable` in bridge/proofs/Release). Assumes nothing.
-use Rattle.numbers.specs.Library.{ℕ, ◌<◌, ◌≡◌, refl, inl, List}
+use Rattle.std.specs.Prelude.{◌<◌, ◌≡◌}
+use Rattle.numbers.specs.Library.{ℕ, refl, inl, List}
 use Rattle.numbers.specs.declared.{index.ItemIndex.ItemIndex, index.ShelfIndex.ShelfIndex}
 use Rattle.rows.specs.Prelude.{with_occupied, item_capacity, item_at, shelf_capacity, shelf_at_of, Below, LinksWithin, below_there}
 use Rattle.rows.specs.declared.header.Header.{Header}

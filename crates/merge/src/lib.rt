@@ -1,4 +1,6 @@
 // A live item released: merged with its free neighbours, and an emptied shelf with its empty ones.
+#![tactic(auto)]
+
 ghost use Rattle.std.specs.Prelude.{◌≡◌};
 ghost use Rattle.shelf_edits.specs.State.{state, Are};
 ghost use Rattle.rows.specs.Prelude.{item_at, shelf_at_of};
@@ -70,7 +72,7 @@ fn vacate(h: Header, area: u32) -> Header
 }
 
 // The header once an item is released, and the empty flag that its shelf got.
-#[derive(Drop)]
+#[derive(Clone, Copy)]
 pub struct Released {
     pub header: Header,
     pub empty: u16,

@@ -1,6 +1,7 @@
 -- A release on its way through the item table asks that links lead to used rows, or to none. Each of its steps writes rows that it reaches along links,
 -- and writes links that it has read, so it leaves header and table as the next one asks. Assumes nothing.
-use Rattle.numbers.specs.Library.{ℕ, ◌≡◌, sym, subst, Bool, true, false, List, eqb}
+use Rattle.std.specs.Prelude.{◌≡◌}
+use Rattle.numbers.specs.Library.{ℕ, sym, subst, Bool, true, false, List, eqb}
 use Rattle.numbers.specs.Prelude.{pick}
 use Rattle.numbers.specs.declared.index.ItemIndex.{ItemIndex}
 use Rattle.rows.specs.Prelude.{item_capacity, item_at, change_item, with_free_items, Below, Linked, LinksWithin, linked-at, within-change, within_again, below_there, linked_there}

@@ -1,5 +1,6 @@
 -- A live item made free, and merged with its free neighbours in the shelf. Assumes nothing.
-use Rattle.numbers.specs.Library.{ℕ, Bool, not, ◌&&◌, ◌≡◌, List, eqb}
+use Rattle.std.specs.Prelude.{◌&&◌, ◌≡◌}
+use Rattle.numbers.specs.Library.{ℕ, Bool, not, List, eqb}
 use Rattle.numbers.specs.Prelude.{pick, no_row}
 use Rattle.numbers.specs.declared.index.ItemIndex.{ItemIndex}
 use Rattle.rows.specs.Prelude.{item_at, change_item}

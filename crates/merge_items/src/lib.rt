@@ -1,4 +1,6 @@
 // A live item made free, and merged with its free neighbours in the shelf.
+#![tactic(auto)]
+
 ghost use Rattle.std.specs.Prelude.{◌≡◌};
 ghost use Rattle.rows.specs.Prelude.{item_capacity, Below};
 ghost use Rattle.rules.specs.Prelude.{flag};
@@ -10,7 +12,7 @@ use rows::header::Header;
 use rows::item;
 
 // The header, and the first row of the shelf's free list, on the way through a release.
-#[derive(Drop)]
+#[derive(Clone, Copy)]
 pub struct Loosened {
     pub header: Header,
     pub first: ItemIndex,

@@ -1,5 +1,6 @@
 -- The plan of a grant at a place: what is granted of its shelf and its item, and what is told of it. Nothing is written. Assumes nothing.
-use Rattle.numbers.specs.Library.{ℕ, Bool, ◌&&◌, List}
+use Rattle.std.specs.Prelude.{◌&&◌}
+use Rattle.numbers.specs.Library.{ℕ, Bool, List}
 use Rattle.numbers.specs.Prelude.{pick, large_enough_to_split}
 use Rattle.numbers.specs.declared.request.Asked.{Asked}
 use Rattle.rows.specs.Prelude.{item_at, shelf_at_of, with_width, with_height}

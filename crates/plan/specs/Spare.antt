@@ -1,5 +1,6 @@
 -- Whether the rows that are freed or unused suffice for the splits that a place needs: at most one shelf row and two item rows. Assumes nothing.
-use Rattle.numbers.specs.Library.{ℕ, ◌+◌, ◌-◌, ◌≤◌, ◌≡◌, refl, Bool, true, false, not, ◌&&◌, List, arith, leb, eqb, le-leb, not-true}
+use Rattle.std.specs.Prelude.{◌+◌, ◌-◌, ◌≤◌, ◌≡◌, ◌&&◌}
+use Rattle.numbers.specs.Library.{ℕ, refl, Bool, true, false, not, List, arith, leb, eqb, le-leb, not-true}
 use Rattle.numbers.specs.Prelude.{pick, no_row}
 use Rattle.rows.specs.Prelude.{item_capacity, item_at, shelf_capacity}
 use Rattle.rows.specs.declared.header.Header.{Header}

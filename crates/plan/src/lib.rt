@@ -1,5 +1,7 @@
 // The plan of a grant, made without a write: which shelf and item, their rows as they were read, which of them are split, and the rectangle; and
 // whether the rows that are freed or unused suffice for the splits.
+#![tactic(auto)]
+
 ghost use Rattle.std.specs.Prelude.{◌≡◌, ◌-◌, ◌<◌, leb};
 ghost use Rattle.numbers.specs.Prelude.{pick};
 ghost use Rattle.rows.specs.Prelude.{item_capacity, shelf_capacity};
@@ -17,7 +19,7 @@ use rows::{item, shelf};
 use search::Place;
 
 // What a grant writes, decided before it writes: `width` and `depth` are those of the rectangle, and `live` is what is told of it.
-#[derive(Drop)]
+#[derive(Clone, Copy)]
 pub struct Plan {
     pub shelf: ShelfIndex,
     pub item: ItemIndex,

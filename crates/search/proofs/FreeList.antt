@@ -1,5 +1,6 @@
 -- The walk of a free list, item by item, over a table that has all its rows. Assumes nothing.
-use Rattle.numbers.specs.Library.{ℕ, ◌<◌, ◌≤◌, ◌≡◌, sym, ap, ◌∙◌, ◌≢◌, List, arith, length, le-leb, lt-leb}
+use Rattle.std.specs.Prelude.{◌<◌, ◌≤◌, ◌≡◌, ◌≢◌}
+use Rattle.numbers.specs.Library.{ℕ, sym, ap, ◌∙◌, List, arith, length, le-leb, lt-leb}
 use Rattle.numbers.specs.Prelude.{no_row, no_item}
 use Rattle.rows.specs.Prelude.{rows, get, rows_few, items}
 use Rattle.rows.specs.declared.item.ItemRow.{ItemRow}

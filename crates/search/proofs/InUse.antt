@@ -1,6 +1,7 @@
 -- What a caller learns from the item that a search answers: it is some row exactly where a place is held, and then shelf and item are used rows. The walk meets
 -- used rows only, and none of them is no row. Assumes nothing.
-use Rattle.numbers.specs.Library.{ℕ, ◌<◌, ◌≤◌, ◌≡◌, refl, ◌≢◌, inl, inr, ⊎_elim, Bool, true, false, List, [], ◌∷◌, List·Memᴰ·head, List·Memᴰ·tail, arith, leb, eqb}
+use Rattle.std.specs.Prelude.{◌<◌, ◌≤◌, ◌≡◌, ◌≢◌, ◌∷◌}
+use Rattle.numbers.specs.Library.{ℕ, refl, inl, inr, ⊎_elim, Bool, true, false, List, [], List·Memᴰ·head, List·Memᴰ·tail, arith, leb, eqb}
 use borrow.Author.Tests.{eqb-false}
 use Rattle.numbers.specs.Prelude.{pick, no_row, good_fit_to}
 use Rattle.numbers.specs.declared.{index.ItemIndex.ItemIndex, request.Asked.Asked}

@@ -1,5 +1,6 @@
 -- The walk of the shelf chain, turn by turn: how the loop's numbers come to carry what the definition holds. Assumes nothing.
-use Rattle.numbers.specs.Library.{ℕ, ◌<◌, ◌≤◌, ◌≡◌, refl, sym, ap, ◌∙◌, ◌≢◌, Bool, true, false, not, List, arith, length, eq-eqb, ne_eqb}
+use Rattle.std.specs.Prelude.{◌<◌, ◌≤◌, ◌≡◌, ◌≢◌}
+use Rattle.numbers.specs.Library.{ℕ, refl, sym, ap, ◌∙◌, Bool, true, false, not, List, arith, length, eq-eqb, ne_eqb}
 use Rattle.numbers.specs.Prelude.{pick, no_row, no_shelf, no_item, good_fit_to}
 use Rattle.numbers.specs.declared.{index.ItemIndex.ItemIndex, request.Asked.Asked}
 use Rattle.rows.specs.Prelude.{rows, get, rows_few, items, shelves}

@@ -1,5 +1,6 @@
 -- Whether a shelf is skipped, by the numbers that the code carries as by what is held: no depth is 65536, and an item held is some row. Assumes nothing.
-use Rattle.numbers.specs.Library.{ℕ, ◌+◌, ◌/◌, ◌≤◌, ◌≡◌, refl, sym, Bool, true, false, false≢true, not, ◌&&◌, ◌||◌, and-false, min, arith, ltb, lt-leb, le-ltb, ne_eqb}
+use Rattle.std.specs.Prelude.{◌+◌, ◌/◌, ◌≤◌, ◌≡◌, ◌&&◌, ◌||◌}
+use Rattle.numbers.specs.Library.{ℕ, refl, sym, Bool, true, false, false≢true, not, and-false, min, arith, ltb, lt-leb, le-ltb, ne_eqb}
 use native.Mathlib.Nat.{le-min}
 use Rattle.numbers.specs.Prelude.{no_row, good_fit_to}
 use Rattle.numbers.specs.declared.request.Asked.{Asked}

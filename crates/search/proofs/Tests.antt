@@ -1,7 +1,8 @@
 -- What a branch on a call, or on a negated one, tells of what the call tests. Of a negated one: `fails` and `some` where the branch is taken, `holds` and
 -- `none` where it is left.
 -- Assumes nothing.
-use Rattle.numbers.specs.Library.{ℕ, ◌≡◌, sym, ◌∙◌, ◌≢◌, Bool, true, false, not, eqb, eqb-true, not-true, not-false}
+use Rattle.std.specs.Prelude.{◌≡◌, ◌≢◌}
+use Rattle.numbers.specs.Library.{ℕ, sym, ◌∙◌, Bool, true, false, not, eqb, eqb-true, not-true, not-false}
 use borrow.Author.Tests.{eqb-false}
 use Rattle.numbers.specs.Prelude.{no_row}
 

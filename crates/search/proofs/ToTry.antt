@@ -1,5 +1,6 @@
 -- The walk to the next shelf to try, shelf by shelf, over a table that has all its rows. Assumes nothing.
-use Rattle.numbers.specs.Library.{ℕ, ◌<◌, ◌≤◌, ◌≡◌, refl, ◌≢◌, Bool, true, false, not, List, arith, length}
+use Rattle.std.specs.Prelude.{◌<◌, ◌≤◌, ◌≡◌, ◌≢◌}
+use Rattle.numbers.specs.Library.{ℕ, refl, Bool, true, false, not, List, arith, length}
 use Rattle.numbers.specs.Prelude.{no_row}
 use Rattle.numbers.specs.declared.index.ItemIndex.{ItemIndex}
 use Rattle.rows.specs.Prelude.{rows, get, rows_few, shelves}

@@ -1,5 +1,6 @@
 -- Where a request goes, by reads along the chains: the shelf chain, and the free list of a shelf, as far as used rows are met there. Assumes nothing.
-use Rattle.numbers.specs.Library.{ℕ, ◌≤◌, ◌≡◌, ◌≢◌, ◌⊎◌, Bool, true, false, not, ◌&&◌, ◌||◌, List, [], ◌∷◌, leb, ltb, eqb}
+use Rattle.std.specs.Prelude.{◌≤◌, ◌≡◌, ◌≢◌, ◌⊎◌, ◌&&◌, ◌||◌, ◌∷◌}
+use Rattle.numbers.specs.Library.{ℕ, Bool, true, false, not, List, [], leb, ltb, eqb}
 use Rattle.numbers.specs.Prelude.{pick, good_fit_to, no_row, no_shelf, no_item}
 use Rattle.numbers.specs.declared.{index.ItemIndex.ItemIndex, request.Asked.Asked}
 use Rattle.rows.specs.Prelude.{get, items, shelves}

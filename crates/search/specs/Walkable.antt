@@ -1,5 +1,6 @@
 -- What a search relies on, so that it needs to test no row and to count no step. It follows from an audit that passes. Assumes nothing.
-use Rattle.numbers.specs.Library.{ℕ, ◌≤◌, List}
+use Rattle.std.specs.Prelude.{◌≤◌}
+use Rattle.numbers.specs.Library.{ℕ, List}
 use Rattle.rows.specs.Prelude.{rows, get, items, shelves}
 use Rattle.rows.specs.declared.header.Header.{Header}
 use Rattle.chains.specs.Prelude.{Each, rows_from, EndsFrom}

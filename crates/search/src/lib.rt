@@ -1,4 +1,6 @@
 // Where a request goes: the walk of the shelf chain. It relies on an audit that passed, and tests no row and counts no step.
+#![tactic(auto)]
+
 ghost use Rattle.std.specs.Prelude.{◌≡◌};
 ghost use Rattle.rows.specs.Prelude.{item_capacity, shelf_capacity};
 ghost use Rattle.chains.specs.Prelude.{rows_from, EndsFrom};
@@ -17,7 +19,7 @@ use rows::{item, shelf};
 const OVER_ANY_DEPTH: u32 = 65536;
 
 // An item of a shelf. `item` names no row where no place was found.
-#[derive(Drop)]
+#[derive(Clone, Copy)]
 pub struct Place {
     pub shelf: ShelfIndex,
     pub item: ItemIndex,

@@ -1,5 +1,6 @@
 -- An empty shelf split in two, and two shelves merged, with the item row that a shelf brings or leaves. Assumes nothing.
-use Rattle.numbers.specs.Library.{ℕ, ◌≡◌, List, length}
+use Rattle.std.specs.Prelude.{◌≡◌}
+use Rattle.numbers.specs.Library.{ℕ, List, length}
 use Rattle.numbers.specs.declared.{index.ItemIndex.ItemIndex, index.ShelfIndex.ShelfIndex}
 use Rattle.rows.specs.Prelude.{length-put, length-change, shelf_at_of, change_shelf, with_y, with_height, with_shelf_prev, with_shelf_next, with_first_item, with_first_free}
 use Rattle.rows.specs.Prelude.{with_empty}

@@ -1,5 +1,6 @@
 -- A header and two tables taken together, for the steps that change all three. Assumes nothing.
-use Rattle.numbers.specs.Library.{ℕ, ◌≡◌, subst, List}
+use Rattle.std.specs.Prelude.{◌≡◌}
+use Rattle.numbers.specs.Library.{ℕ, subst, List}
 use Rattle.rows.specs.declared.header.Header.{Header}
 
 pub record State : Type 0 where

@@ -1,4 +1,6 @@
 // An empty shelf split in two, and two shelves merged.
+#![tactic(auto)]
+
 ghost use Rattle.std.specs.Prelude.{◌≡◌, ◌<◌};
 ghost use Rattle.rows.specs.Prelude.{shelf_capacity, change_shelf, with_shelf_prev};
 ghost use Rattle.pool.specs.Pool.{new_item};

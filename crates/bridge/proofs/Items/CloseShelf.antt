@@ -1,6 +1,7 @@
 -- A shelf is opened where an atlas stands, and closed again once its items and its free list are others: the shelf's row and the header are written, and
 -- the atlas with that shelf stands. Assumes nothing.
-use Rattle.numbers.specs.Library.{ℕ, ◌≡◌, refl, ◌≢◌, inl, inr, ⊎_elim, true, List, [], ◌∷◌, ◌++◌, List·Memᴰ·head, Memᴰ·cast, Memᴰ·append-left}
+use Rattle.std.specs.Prelude.{◌≡◌, ◌≢◌, ◌∷◌, ◌++◌}
+use Rattle.numbers.specs.Library.{ℕ, refl, inl, inr, ⊎_elim, true, List, [], List·Memᴰ·head, Memᴰ·cast, Memᴰ·append-left}
 use Rattle.numbers.specs.Library.{Memᴰ·append-right, List·Memᴰ·append-cases, arith, ltb, lt-ltb}
 use Rattle.numbers.specs.Prelude.{no_row}
 use Rattle.numbers.specs.declared.index.ItemIndex.{ItemIndex}

@@ -1,6 +1,7 @@
 -- What a grant and a release do to an opened shelf, composed of the edits of the item table: an item granted whole, its left part granted, an item made
 -- free, put on the free list, and joined with a neighbour. Assumes nothing.
-use Rattle.numbers.specs.Library.{ℕ, ◌<◌, ◌≤◌, ◌+◌, ◌≡◌, refl, sym, inr, ⊎_elim, true, false, List, [], ◌∷◌, ◌++◌, List·Memᴰ·head, List·Memᴰ·cases-cons}
+use Rattle.std.specs.Prelude.{◌<◌, ◌≤◌, ◌+◌, ◌≡◌, ◌∷◌, ◌++◌}
+use Rattle.numbers.specs.Library.{ℕ, refl, sym, inr, ⊎_elim, true, false, List, [], List·Memᴰ·head, List·Memᴰ·cases-cons}
 use Rattle.numbers.specs.Library.{Memᴰ·cast, Memᴰ·append-right}
 use Rattle.chains.specs.Prelude.{◌∈◌, back_onto, first_row, first_of}
 use Rattle.chains.proofs.Prelude.{onto_apart, in_onto, onto_in}

@@ -1,6 +1,7 @@
 -- An item of a shelf granted, whole or its left part: the step's item table, its shelf's row and its header are those in which the granted atlas
 -- stands. Assumes nothing.
-use Rattle.numbers.specs.Library.{ℕ, ◌<◌, ◌≤◌, ◌+◌, ◌*◌, ◌≡◌, refl, ap, ◌∙◌, inr, Bool, true, false, List, [], ◌∷◌, ◌++◌, List·Memᴰ·head, mul-le-mul_right}
+use Rattle.std.specs.Prelude.{◌<◌, ◌≤◌, ◌+◌, ◌*◌, ◌≡◌, ◌∷◌, ◌++◌}
+use Rattle.numbers.specs.Library.{ℕ, refl, ap, ◌∙◌, inr, Bool, true, false, List, [], List·Memᴰ·head, mul-le-mul_right}
 use Rattle.numbers.specs.Library.{arith, eqb}
 use Rattle.numbers.specs.Prelude.{pick, pick_ap, most_area}
 use Rattle.numbers.specs.declared.index.ItemIndex.{ItemIndex}

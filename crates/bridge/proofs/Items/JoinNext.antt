@@ -1,5 +1,6 @@
 -- The next item of an opened shelf joined to one: the first grows by the width of the second, whose row is freed. The shelf stays open. Assumes nothing.
-use Rattle.numbers.specs.Library.{ℕ, ◌<◌, ◌≤◌, ◌+◌, ◌≡◌, refl, sym, ap, ◌∙◌, ◌≢◌, inr, ⊎_elim, List, ◌∷◌, ◌++◌, List·Memᴰ·head, List·Memᴰ·tail}
+use Rattle.std.specs.Prelude.{◌<◌, ◌≤◌, ◌+◌, ◌≡◌, ◌≢◌, ◌∷◌, ◌++◌}
+use Rattle.numbers.specs.Library.{ℕ, refl, sym, ap, ◌∙◌, inr, ⊎_elim, List, List·Memᴰ·head, List·Memᴰ·tail}
 use Rattle.numbers.specs.Library.{List·Memᴰ·append-cases, List·Memᴰ·eq-of-singleton, Memᴰ·cast, Memᴰ·append-left, Memᴰ·append-right, arith}
 use Rattle.numbers.specs.Prelude.{no_row}
 use Rattle.chains.specs.Prelude.{◌∈◌, Distinct, gather, back_onto, first_row, Chain}

@@ -1,5 +1,6 @@
 -- An item of an opened shelf marked live or free: the shelf stays open, with that item changed. Also what an item's row says there. Assumes nothing.
-use Rattle.numbers.specs.Library.{ℕ, ◌≡◌, refl, ap, ◌≢◌, inr, ⊎_elim, true, false, List, [], ◌∷◌, List·Memᴰ·head, List·Memᴰ·tail, List·Memᴰ·append-cases}
+use Rattle.std.specs.Prelude.{◌≡◌, ◌≢◌, ◌∷◌}
+use Rattle.numbers.specs.Library.{ℕ, refl, ap, inr, ⊎_elim, true, false, List, [], List·Memᴰ·head, List·Memᴰ·tail, List·Memᴰ·append-cases}
 use Rattle.numbers.specs.Library.{List·Memᴰ·eq-of-singleton, Memᴰ·cast, Memᴰ·append-right, ℕ_discrete}
 use Rattle.numbers.specs.Prelude.{pick, no_row}
 use Rattle.chains.specs.Prelude.{◌∈◌, gather, back_onto, first_row}

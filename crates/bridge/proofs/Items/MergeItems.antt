@@ -1,6 +1,7 @@
 -- The merges of a release on an opened shelf: a free next item is taken in, then the item is merged into a free previous one or goes to the front of
 -- the free list. What the steps do to the item table and the header is what the rules do to the shelf. Assumes nothing.
-use Rattle.numbers.specs.Library.{ℕ, ◌≤◌, ◌+◌, ◌≡◌, refl, sym, ap, ◌∙◌, inr, Bool, true, false, List, [], ◌∷◌, ◌++◌, List·Memᴰ·head, arith, eqb, ne_eqb}
+use Rattle.std.specs.Prelude.{◌≤◌, ◌+◌, ◌≡◌, ◌∷◌, ◌++◌}
+use Rattle.numbers.specs.Library.{ℕ, refl, sym, ap, ◌∙◌, inr, Bool, true, false, List, [], List·Memᴰ·head, arith, eqb, ne_eqb}
 use Rattle.numbers.specs.Prelude.{pick, pick_ap, no_row}
 use Rattle.numbers.specs.declared.index.ItemIndex.{ItemIndex}
 use Rattle.chains.specs.Prelude.{◌∈◌, gather, back_onto, first_row, first_of}

@@ -1,6 +1,7 @@
 -- What the two merges of a release keep of a shelf: its first row, its live area but for the item, its width, and the shelf rows; and what
 -- holds of the item between them. Assumes nothing.
-use Rattle.numbers.specs.Library.{ℕ, ◌+◌, ◌*◌, ◌≡◌, refl, ap, ◌∙◌, Bool, true, false, List, [], ◌∷◌, arith}
+use Rattle.std.specs.Prelude.{◌+◌, ◌*◌, ◌≡◌, ◌∷◌}
+use Rattle.numbers.specs.Library.{ℕ, refl, ap, ◌∙◌, Bool, true, false, List, [], arith}
 use Rattle.numbers.specs.Prelude.{pick}
 use Rattle.chains.specs.Prelude.{◌∈◌, back_onto, first_row}
 use Rattle.chains.proofs.Prelude.{self, first_onto}

@@ -1,6 +1,7 @@
 -- No sum or product that is stored of an atlas in shape wraps: items end within 16 bits, shelves too, and areas within the largest atlas. Such a
 -- shelf or atlas is called narrow. What is occupied is no more than the atlas has. Assumes nothing.
-use Rattle.numbers.specs.Library.{ℕ, ◌+◌, ◌*◌, ◌≤◌, ◌≡◌, refl, ap, Bool, true, false, List, [], ◌∷◌, add-mul, mul-le-mul, mul-le-mul_right, div-mul-le_self}
+use Rattle.std.specs.Prelude.{◌+◌, ◌*◌, ◌≤◌, ◌≡◌, ◌∷◌}
+use Rattle.numbers.specs.Library.{ℕ, refl, ap, Bool, true, false, List, [], add-mul, mul-le-mul, mul-le-mul_right, div-mul-le_self}
 use Rattle.numbers.specs.Library.{arith, eqb, eqb-true}
 use Rattle.numbers.specs.Prelude.{pick, columns, WithinLimits, most_area}
 use Rattle.numbers.specs.declared.limits.Limits.{Limits}

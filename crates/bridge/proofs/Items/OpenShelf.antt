@@ -1,6 +1,7 @@
 -- One shelf opened: its items and free list lie in the item table, the freed rows too, and every other row is as it was in a table I₀. Each edit of an
 -- item table leads from one such state to another; here are the edits of the free list, `unlist`, `relist` and `enlist`. Assumes nothing.
-use Rattle.numbers.specs.Library.{ℕ, ◌<◌, ◌≤◌, ◌≡◌, refl, sym, ap, ◌∙◌, ◌≢◌, ◌⊎◌, inl, inr, ⊎_elim, true, List, [], ◌∷◌, ◌++◌, List·Memᴰ·tail}
+use Rattle.std.specs.Prelude.{◌<◌, ◌≤◌, ◌≡◌, ◌≢◌, ◌⊎◌, ◌∷◌, ◌++◌}
+use Rattle.numbers.specs.Library.{ℕ, refl, sym, ap, ◌∙◌, inl, inr, ⊎_elim, true, List, [], List·Memᴰ·tail}
 use Rattle.numbers.specs.Library.{List·Memᴰ·cases-cons, Memᴰ·cast, Memᴰ·append-left, Memᴰ·append-right, arith, ltb, lt-ltb}
 use Rattle.numbers.specs.Prelude.{no_row}
 use Rattle.chains.specs.Prelude.{◌∈◌, Distinct, gather, back_onto, first_of, Chain}

@@ -1,6 +1,7 @@
 -- A row taken out of a pool, of shelf rows or of item rows: it serves nowhere, it is there, the rows still freed are those that were freed
 -- but it, and it is the row that the header and the table name. A row given back. Assumes nothing.
-use Rattle.numbers.specs.Library.{ℕ, ◌<◌, ◌≤◌, ◌+◌, ◌-◌, ◌≡◌, refl, ap, ◌∙◌, ◌≢◌, ◌⊎◌, inl, inr, ⊎_elim, List, [], ◌∷◌, List·Memᴰ·head, List·Memᴰ·tail}
+use Rattle.std.specs.Prelude.{◌<◌, ◌≤◌, ◌+◌, ◌-◌, ◌≡◌, ◌≢◌, ◌⊎◌, ◌∷◌}
+use Rattle.numbers.specs.Library.{ℕ, refl, ap, ◌∙◌, inl, inr, ⊎_elim, List, [], List·Memᴰ·head, List·Memᴰ·tail}
 use Rattle.numbers.specs.Library.{List·Memᴰ·not-nil, List·Memᴰ·cases-cons, ℕ_discrete, arith, length, ne_eqb}
 use Rattle.numbers.specs.Prelude.{no_row}
 use Rattle.chains.specs.Prelude.{◌∈◌, Distinct, gather, first_row, first_of, Chain}

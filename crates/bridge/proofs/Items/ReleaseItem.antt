@@ -1,6 +1,7 @@
 -- The first half of a release: a live item is made free and merged with its free neighbours, and its shelf's row and the header follow. The atlas that
 -- stands then is the rules' atlas at that point. Assumes nothing.
-use Rattle.numbers.specs.Library.{ℕ, ◌<◌, ◌≤◌, ◌+◌, ◌-◌, ◌*◌, ◌≡◌, refl, sym, ap, ◌∙◌, subst, inr, Bool, true, false, not, ◌&&◌, List, [], ◌∷◌, ◌++◌}
+use Rattle.std.specs.Prelude.{◌<◌, ◌≤◌, ◌+◌, ◌-◌, ◌*◌, ◌≡◌, ◌&&◌, ◌∷◌, ◌++◌}
+use Rattle.numbers.specs.Library.{ℕ, refl, sym, ap, ◌∙◌, subst, inr, Bool, true, false, not, List, []}
 use Rattle.numbers.specs.Library.{List·Memᴰ·head, arith, eqb, ne_eqb}
 use Rattle.numbers.specs.Prelude.{pick, no_row, most_area}
 use Rattle.numbers.specs.declared.index.ItemIndex.{ItemIndex}

@@ -1,6 +1,7 @@
 -- What a row says after changes, by two views of an item row: its body, and its links in the free list. `simp reads` works out any run of changes of a
 -- table, and `simp sights` of the views, given that the rows differ that must. Assumes nothing.
-use Rattle.numbers.specs.Library.{ℕ, ◌≡◌, refl, ap, List}
+use Rattle.std.specs.Prelude.{◌≡◌}
+use Rattle.numbers.specs.Library.{ℕ, refl, ap, List}
 use Rattle.numbers.specs.declared.{index.ItemIndex.ItemIndex, index.ShelfIndex.ShelfIndex}
 use Rattle.rows.specs.Prelude.{get, rows-put, get-put_other, change, rows-change, get-change_other, get-put_there, get-change_there, unseen, items, with_item_x}
 use Rattle.rows.specs.Prelude.{with_width, with_item_prev, with_item_next, with_prev_free, with_next_free, with_shelf, with_allocated, with_generation, Body, Links, body_of}

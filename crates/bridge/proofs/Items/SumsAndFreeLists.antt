@@ -1,6 +1,7 @@
 -- Sums of areas split at a place (items before and after it, shelves before and after it), and a free list with one row replaced or taken out.
 -- Assumes nothing.
-use Rattle.numbers.specs.Library.{ℕ, ◌+◌, ◌≡◌, refl, sym, ap, ◌∙◌, ⊎_elim, Bool, true, false, List, [], ◌∷◌, ◌++◌, List·Memᴰ·head, List·Memᴰ·tail}
+use Rattle.std.specs.Prelude.{◌+◌, ◌≡◌, ◌∷◌, ◌++◌}
+use Rattle.numbers.specs.Library.{ℕ, refl, sym, ap, ◌∙◌, ⊎_elim, Bool, true, false, List, [], List·Memᴰ·head, List·Memᴰ·tail}
 use Rattle.numbers.specs.Library.{List·Memᴰ·not-nil, List·Memᴰ·cases-cons, Memᴰ·cast, arith, eqb, eq-eqb, ne_eqb}
 use Rattle.numbers.specs.Prelude.{pick}
 use Rattle.chains.specs.Prelude.{◌∈◌, back_onto, first_of}

@@ -1,6 +1,7 @@
 -- The step grants an item whole or splits it as the rules do, so what stands after it is the rules' atlas in either case; and an item's row names the
 -- shelf that it stands on. Assumes nothing.
-use Rattle.numbers.specs.Library.{ℕ, ◌<◌, ◌≤◌, ◌≡◌, refl, ap, ◌∙◌, Bool, true, false, List, ◌∷◌, ◌++◌}
+use Rattle.std.specs.Prelude.{◌<◌, ◌≤◌, ◌≡◌, ◌∷◌, ◌++◌}
+use Rattle.numbers.specs.Library.{ℕ, refl, ap, ◌∙◌, Bool, true, false, List}
 use Rattle.numbers.specs.Prelude.{pick, most_area}
 use Rattle.numbers.specs.declared.request.Asked.{Asked}
 use Rattle.chains.specs.Prelude.{Focus, back_onto, first_row, first_of}

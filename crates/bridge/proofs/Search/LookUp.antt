@@ -1,6 +1,7 @@
 -- Look-up: an id names a live item of the tables exactly when it names one of the atlas, the answer tells the same of both, and each row that is
 -- read for it is there. Assumes nothing.
-use Rattle.numbers.specs.Library.{ℕ, ◌≤◌, ◌<◌, ◌≡◌, refl, sym, ap, ◌∙◌, inr, ⊎_elim, Bool, true, false, ◌&&◌, Option, none, some, List, [], ◌∷◌, List·Memᴰ·head}
+use Rattle.std.specs.Prelude.{◌≤◌, ◌<◌, ◌≡◌, ◌&&◌, ◌∷◌}
+use Rattle.numbers.specs.Library.{ℕ, refl, sym, ap, ◌∙◌, inr, ⊎_elim, Bool, true, false, Option, none, some, List, [], List·Memᴰ·head}
 use Rattle.numbers.specs.Library.{List·Memᴰ·not-nil, List·Memᴰ·cases-cons, Memᴰ·append-left, dec_lt, ℕ_discrete, arith, eqb, eq-eqb, ne_eqb, lt-ltb, le-ltb}
 use Rattle.numbers.specs.Prelude.{pick, no_row, both}
 use Rattle.rows.specs.Prelude.{rows, get, items, with_item_next, with_generation, shelves, Body, body_of}

@@ -1,6 +1,7 @@
 -- Answer 7: the tables have rows enough for a place exactly when the rules say that they are not too few. The code counts at most two freed
 -- rows, and no place needs more. Assumes nothing.
-use Rattle.numbers.specs.Library.{ℕ, suc, ◌+◌, ◌-◌, ◌≤◌, ◌≡◌, refl, sym, ap, ◌∙◌, ◌≢◌, Bool, true, false, not, ◌&&◌, ◌||◌, List, [], ◌∷◌, List·Memᴰ·head}
+use Rattle.std.specs.Prelude.{◌+◌, ◌-◌, ◌≤◌, ◌≡◌, ◌≢◌, ◌&&◌, ◌||◌, ◌∷◌}
+use Rattle.numbers.specs.Library.{ℕ, suc, refl, sym, ap, ◌∙◌, Bool, true, false, not, List, [], List·Memᴰ·head}
 use Rattle.numbers.specs.Library.{List·Memᴰ·tail, arith, length, eqb, leb, ltb, ne_eqb, le-leb, lt-leb, lt-ltb, le-ltb}
 use native.Mathlib.Decide.{dec_le}
 use Rattle.numbers.specs.Prelude.{pick, no_row}

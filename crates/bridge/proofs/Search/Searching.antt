@@ -1,6 +1,7 @@
 -- The search as a whole, where an atlas is stored in the tables: it holds the rows of what the rules' search holds, or nothing where that holds
 -- nothing. Assumes nothing.
-use Rattle.numbers.specs.Library.{ℕ, ◌≤◌, ◌<◌, ◌≡◌, sym, ap, ◌∙◌, List, [], ◌∷◌, Memᴰ·append-left, Memᴰ·append-right, arith}
+use Rattle.std.specs.Prelude.{◌≤◌, ◌<◌, ◌≡◌, ◌∷◌}
+use Rattle.numbers.specs.Library.{ℕ, sym, ap, ◌∙◌, List, [], Memᴰ·append-left, Memᴰ·append-right, arith}
 use Rattle.numbers.specs.Prelude.{no_row}
 use Rattle.numbers.specs.declared.request.Asked.{Asked}
 use Rattle.rows.specs.Prelude.{get, rows_few, items, shelves, links_of}

@@ -1,6 +1,7 @@
 -- The walk of the shelf chain, from any shelf on: what the search of the tables holds at each step is what the rules' walk holds, by its rows.
 -- Assumes nothing.
-use Rattle.numbers.specs.Library.{ℕ, ◌≡◌, refl, ap, ◌≢◌, ⊎_elim, Bool, true, false, ◌&&◌, ◌||◌, Option, none, some, List, [], ◌∷◌}
+use Rattle.std.specs.Prelude.{◌≡◌, ◌≢◌, ◌&&◌, ◌||◌, ◌∷◌}
+use Rattle.numbers.specs.Library.{ℕ, refl, ap, ⊎_elim, Bool, true, false, Option, none, some, List, []}
 use Rattle.numbers.specs.Library.{List·Memᴰ·head, List·Memᴰ·tail, List·Memᴰ·not-nil, List·Memᴰ·cases-cons, ℕ_discrete, eqb, leb, eq-eqb, ne_eqb}
 use Rattle.numbers.specs.Prelude.{pick, no_row, no_item, good_fit_to}
 use Rattle.numbers.specs.declared.{index.ItemIndex.ItemIndex, request.Asked.Asked}

@@ -1,5 +1,6 @@
 -- An empty shelf is one free item. Assumes nothing.
-use Rattle.numbers.specs.Library.{◌≡◌, refl, Bool, true, false, not, false≢true, List, [], ◌∷◌}
+use Rattle.std.specs.Prelude.{◌≡◌, ◌∷◌}
+use Rattle.numbers.specs.Library.{refl, Bool, true, false, not, false≢true, List, []}
 use Rattle.rules.specs.Prelude.{Item, is_empty_of}
 
 pub lone_item_lem : (is : List Item) → is_empty_of is ≡ true → (i : Item) × (is ≡ i ∷ []) × (i.live ≡ false)

@@ -1,5 +1,6 @@
 -- The shelf of a grant is made to fit: split where the rules split it, else left as it is. Assumes nothing.
-use Rattle.numbers.specs.Library.{◌<◌, ◌≤◌, ◌+◌, ◌^◌, ◌≡◌, true, List, ◌∷◌, arith, ltb-true}
+use Rattle.std.specs.Prelude.{◌<◌, ◌≤◌, ◌+◌, ◌^◌, ◌≡◌, ◌∷◌}
+use Rattle.numbers.specs.Library.{true, List, arith, ltb-true}
 use Rattle.numbers.specs.Prelude.{large_enough_to_split, both}
 use Rattle.numbers.specs.declared.request.Asked.{Asked}
 use Rattle.chains.specs.Prelude.{back_onto}

@@ -1,6 +1,7 @@
 -- Create and clear write one row of each table for each column, rows 0 to C - 1 and no other, and a fresh atlas is stored in what they write.
 -- Assumes nothing.
-use Rattle.numbers.specs.Library.{ℕ, zero, suc, ◌<◌, ◌≤◌, ◌+◌, ◌*◌, ◌≡◌, refl, ap, ◌∙◌, List, List·Memᴰ·not-nil, suc-mul, le-div_iff_mul-le, ℕ_discrete, arith}
+use Rattle.std.specs.Prelude.{◌<◌, ◌≤◌, ◌+◌, ◌*◌, ◌≡◌}
+use Rattle.numbers.specs.Library.{ℕ, zero, suc, refl, ap, ◌∙◌, List, List·Memᴰ·not-nil, suc-mul, le-div_iff_mul-le, ℕ_discrete, arith}
 use Rattle.numbers.specs.Library.{lt-ltb, le-ltb}
 use Rattle.numbers.specs.declared.limits.Limits.{Limits}
 use Rattle.numbers.specs.Prelude.{columns, WithinLimits}

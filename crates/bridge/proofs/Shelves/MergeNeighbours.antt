@@ -1,6 +1,7 @@
 -- The two merges of shelves at the end of a release: the next shelf into this one, then this one into the previous. Each makes the choice that the
 -- rules make, and leads to the atlas that they make. Assumes nothing.
-use Rattle.numbers.specs.Library.{ℕ, ◌<◌, ◌≤◌, ◌+◌, ◌^◌, ◌≡◌, refl, ap, subst, Bool, true, false, ◌&&◌, and-false, List, [], ◌∷◌, arith, eqb}
+use Rattle.std.specs.Prelude.{◌<◌, ◌≤◌, ◌+◌, ◌^◌, ◌≡◌, ◌&&◌, ◌∷◌}
+use Rattle.numbers.specs.Library.{ℕ, refl, ap, subst, Bool, true, false, and-false, List, [], arith, eqb}
 use mathlib.Core.Bool.{and_assoc}
 use Rattle.numbers.specs.Prelude.{pick, no_row, no_shelf, both}
 use Rattle.numbers.specs.declared.{index.ShelfIndex.ShelfIndex, limits.Limits.Limits}

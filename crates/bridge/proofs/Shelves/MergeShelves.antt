@@ -1,6 +1,7 @@
 -- An empty shelf merged into the empty one above it: the upper one is as deep as both, and the rows of the lower one and of its item are freed. The
 -- merged atlas stands in what the step leaves. Assumes nothing.
-use Rattle.numbers.specs.Library.{ℕ, ◌<◌, ◌+◌, ◌^◌, ◌≡◌, refl, sym, ap, ◌∙◌, ◌≢◌, ◌⊎◌, inl, inr, true, false, List, [], ◌∷◌, ◌++◌, List·Memᴰ·head}
+use Rattle.std.specs.Prelude.{◌<◌, ◌+◌, ◌^◌, ◌≡◌, ◌≢◌, ◌⊎◌, ◌∷◌, ◌++◌}
+use Rattle.numbers.specs.Library.{ℕ, refl, sym, ap, ◌∙◌, inl, inr, true, false, List, [], List·Memᴰ·head}
 use Rattle.numbers.specs.Library.{List·Memᴰ·tail, Memᴰ·cast, Memᴰ·append-left, Memᴰ·append-right, arith, ltb}
 use Rattle.numbers.specs.Prelude.{no_row}
 use Rattle.chains.specs.Prelude.{◌∈◌, Distinct, Each, back_onto, first_row, Chain}

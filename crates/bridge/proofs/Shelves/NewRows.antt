@@ -1,6 +1,7 @@
 -- The two rows that a shelf split takes, a shelf row and then an item row: they are the rows that the rules take, they serve nowhere yet, and the
 -- header that is left holds the two pools that are left. Assumes nothing.
-use Rattle.numbers.specs.Library.{ℕ, ◌<◌, ◌≡◌, ap, ◌∙◌}
+use Rattle.std.specs.Prelude.{◌<◌, ◌≡◌}
+use Rattle.numbers.specs.Library.{ℕ, ap, ◌∙◌}
 use Rattle.chains.specs.Prelude.{first_row, first_of}
 use Rattle.rows.specs.Prelude.{rows, put, items, with_generation, shelves, with_used_shelves, with_free_shelves}
 use Rattle.pool.specs.Pool.{new_item, add_item, new_shelf, shelf_taken, item_taken}

@@ -1,0 +1,11 @@
+use Rattle.numbers.specs.Library.{eq-eqb, ne_eqb}
+use Rattle.search.specs.Search.{shelf_is_empty, is_bad_fit}
+use Rattle.search.proofs.is_bad_fit.Goals as goal
+
+pub returns-then-s-eq1 : goal.returns-then-s-eq1
+unfolding is_bad_fit shelf_is_empty
+returns-then-s-eq1 c = rw (eq-eqb _ _ c.if-s-eq1.true)
+
+pub returns : goal.returns
+unfolding is_bad_fit shelf_is_empty
+returns c = rw (ne_eqb _ _ c.if-s-eq1.false)
