@@ -1,7 +1,9 @@
 -- Allocate: what the code does over the tables comes to what the rules say of the atlas that is met there. Assumes nothing.
-use Rattle.numbers.specs.Library.{ℕ, ◌≡◌, refl, sym, ap, ◌∙◌, subst, ◌≢◌, inl, inr, ⊎_elim, Bool, true, false, not, List, ℤ, eqb, eqb-true}
+use Rattle.std.specs.Prelude.{◌≡◌, ◌≢◌}
+use Rattle.numbers.specs.Library.{ℕ, refl, sym, ap, ◌∙◌, subst, inl, inr, ⊎_elim, Bool, true, false, not, List, ℤ, eqb, eqb-true}
 use borrow.Author.Tests.{eqb-false}
-use Rattle.numbers.specs.Prelude.{pick, no_row, Decides, asked, Placeable, asked_placeable}
+use Rattle.numbers.specs.Prelude.{pick, no_row, Decides, asked, Placeable}
+use Rattle.numbers.proofs.Placing.{asked_placeable}
 use Rattle.numbers.specs.declared.request.Asked.{Asked}
 use Rattle.numbers.specs.declared.request.Request.TheVariants as request
 use Rattle.rows.specs.declared.{header.Header.Header, live.Live.Live}

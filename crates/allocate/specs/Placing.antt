@@ -1,5 +1,6 @@
 -- A request that passed checks 4 and 5, over the tables: 6, 7 or the grant at the place that the search holds. Assumes nothing.
-use Rattle.numbers.specs.Library.{ℕ, ◌≡◌, List}
+use Rattle.std.specs.Prelude.{◌≡◌}
+use Rattle.numbers.specs.Library.{ℕ, List}
 use Rattle.numbers.specs.Prelude.{pick}
 use Rattle.numbers.specs.declared.request.Asked.{Asked}
 use Rattle.rows.specs.declared.header.Header.{Header}

@@ -1,4 +1,6 @@
 // The public call allocate: a request is judged, a place is searched for, and it is granted if the rows suffice.
+#![tactic(auto)]
+
 ghost use Rattle.std.specs.Prelude.{◌≡◌};
 ghost use Rattle.promises.specs.declared.answers.Grant.TheVariants as grant;
 ghost use Rattle.promises.specs.Prelude.{Allocates};

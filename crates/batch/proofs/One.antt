@@ -1,5 +1,6 @@
 -- A release as a list of one request: what the loop leaves after it is what the call promises. Assumes nothing.
-use Rattle.numbers.specs.Library.{ℕ, ◌≤◌, ◌≡◌, refl, true, List, [], ◌∷◌, length, arith}
+use Rattle.std.specs.Prelude.{◌≤◌, ◌≡◌, ◌∷◌}
+use Rattle.numbers.specs.Library.{ℕ, refl, true, List, [], length, arith}
 use Rattle.rows.specs.Prelude.{rows, get, fit_rows}
 use Rattle.rows.specs.Row.{get_in}
 use Rattle.rows.specs.declared.header.Header.{Header}

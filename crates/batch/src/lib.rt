@@ -1,4 +1,6 @@
 // A batch: requests one after the other on one audit. Beyond document 01; each request is answered as its single call would answer it.
+#![tactic(auto)]
+
 ghost use Rattle.std.specs.Prelude.{◌≡◌, ◌≤◌};
 ghost use Rattle.rows.specs.Prelude.{rows};
 ghost use Rattle.rules.specs.Prelude.{Passes};

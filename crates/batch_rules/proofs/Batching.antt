@@ -1,5 +1,6 @@
 -- The three answers of a batch. Assumes nothing.
-use Rattle.numbers.specs.Library.{ℕ, ◌≤◌, ◌<◌, ◌≡◌, refl, Bool, true, false, not, List, arith}
+use Rattle.std.specs.Prelude.{◌≤◌, ◌<◌, ◌≡◌}
+use Rattle.numbers.specs.Library.{ℕ, refl, Bool, true, false, not, List, arith}
 use Rattle.numbers.specs.Prelude.{Decides, denied, allowed}
 use Rattle.rows.specs.Prelude.{rows}
 use Rattle.rows.specs.declared.header.Header.{Header}

@@ -1,6 +1,7 @@
 -- Rows in use stay in use: no request makes the used rows of a table fewer. So what a run of requests leaves past the used rows is what stood there before the
 -- first. Assumes nothing.
-use Rattle.numbers.specs.Library.{ℕ, ◌+◌, ◌≤◌, pos, Option, none, some, List, [], ◌∷◌, ℤ, arith, eqb}
+use Rattle.std.specs.Prelude.{◌+◌, ◌≤◌, ◌∷◌}
+use Rattle.numbers.specs.Library.{ℕ, pos, Option, none, some, List, [], ℤ, arith, eqb}
 use Rattle.numbers.specs.Prelude.{asked}
 use Rattle.numbers.specs.declared.request.{Asked.Asked, Request.Request}
 use Rattle.numbers.specs.declared.request.Request.TheVariants.{Good, Refused}

@@ -1,5 +1,6 @@
 -- The loop over the requests: what stands after the first k of them. Assumes nothing.
-use Rattle.numbers.specs.Library.{ℕ, zero, suc, ◌+◌, ◌≤◌, ◌<◌, ◌≡◌, refl, ap, ◌∙◌, List, length, arith, add-one}
+use Rattle.std.specs.Prelude.{◌+◌, ◌≤◌, ◌<◌, ◌≡◌}
+use Rattle.numbers.specs.Library.{ℕ, zero, suc, refl, ap, ◌∙◌, List, length, arith, add-one}
 use Rattle.rows.specs.Prelude.{rows, get, put, length-put, rows_long}
 use Rattle.rows.specs.declared.header.Header.{Header}
 use Rattle.rules.specs.Prelude.{Passes, room_in, atlas_in}

@@ -1,5 +1,6 @@
 -- A request is served as its single call: the call's promise with its answer told. Assumes nothing.
-use Rattle.numbers.specs.Library.{ℕ, ◌≡◌, refl, ap, ◌∙◌, ◌≢◌, List, pos, eq-eqb, ne_eqb}
+use Rattle.std.specs.Prelude.{◌≡◌, ◌≢◌}
+use Rattle.numbers.specs.Library.{ℕ, refl, ap, ◌∙◌, List, pos, eq-eqb, ne_eqb}
 use Rattle.rows.specs.declared.header.Header.{Header}
 use Rattle.rules.specs.Prelude.{Outcome, Call, Allocate, Release, LookUp, Value, fails, passes, Promise, step, step_in, Asks, Leaves, header_kept, is_create, mapped}
 use Rattle.promises.specs.Prelude.{grants, replies, Allocates, Releases, LooksUp}

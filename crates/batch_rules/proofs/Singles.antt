@@ -1,5 +1,6 @@
 -- A batch is its single calls, one after the other: answers, header and every number of both tables. And any two outcomes of a batch are equal. Assumes nothing.
-use Rattle.numbers.specs.Library.{ℕ, ◌≤◌, ◌≡◌, refl, sym, ◌∙◌, List, arith}
+use Rattle.std.specs.Prelude.{◌≤◌, ◌≡◌}
+use Rattle.numbers.specs.Library.{ℕ, refl, sym, ◌∙◌, List, arith}
 use Rattle.rows.specs.Prelude.{rows}
 use Rattle.rows.specs.declared.header.Header.{Header}
 use Rattle.rules.specs.Prelude.{Passes, room_in, atlas_in}

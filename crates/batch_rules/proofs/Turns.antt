@@ -1,11 +1,12 @@
 -- From request to request: what a run of requests leaves, and that any single calls that keep their promises leave the same. Assumes nothing.
-use Rattle.numbers.specs.Library.{ℕ, suc, ◌≡◌, refl, false, List, eqb}
-use Rattle.rows.specs.Prelude.{past_more, past_then, past_same, rows, get, items, shelves}
+use Rattle.std.specs.Prelude.{◌≡◌}
+use Rattle.numbers.specs.Library.{ℕ, suc, refl, false, List, eqb}
+use Rattle.rows.specs.Prelude.{past_more, past_then, past_same, get, items, shelves}
 use Rattle.rows.specs.declared.header.Header.{Header}
-use Rattle.rules.specs.Prelude.{Atlas, room_in, atlas_in, Passes, Outcome, refused, gives, Given, standing, Value, told_of, step_in, step, is_create, Unchanged, Becomes, Leaves, header_kept, Comes, Promise}
+use Rattle.rules.specs.Prelude.{Atlas, room_in, atlas_in, Passes, Outcome, refused, gives, Given, standing, Value, step_in, step, is_create, Unchanged, Becomes, Leaves, header_kept, Comes, Promise}
 use Rattle.laws.proofs.Stored.Reading.{formed}
 use Rattle.laws.proofs.Shape.Around.{pick_cases}
-use Rattle.promises.proofs.Steps.{on_passing, as_long, same_room}
+use Rattle.promises.proofs.Steps.{on_passing, same_room}
 use Rattle.batch_rules.specs.Asked.{askings, call_of}
 use Rattle.batch_rules.specs.Asked as asked
 use Rattle.batch_rules.specs.Batch.{atlas_after, told_at}

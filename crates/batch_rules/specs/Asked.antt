@@ -1,5 +1,6 @@
 -- Requests and answers as numbers: three to a request, seven to an answer; the call that a request is, and what is told of its outcome. Assumes nothing.
-use Rattle.numbers.specs.Library.{ℕ, refl, List, [], ◌∷◌, pos, lit<, get_or, eqb}
+use Rattle.std.specs.Prelude.{◌∷◌}
+use Rattle.numbers.specs.Library.{ℕ, refl, List, [], pos, lit<, get_or, eqb}
 use Rattle.numbers.specs.Prelude.{pick}
 use Rattle.rows.specs.Prelude.{each_all, Shape}
 use Rattle.rules.specs.Prelude.{Outcome, refused, gives, Call, Allocate, Release, LookUp, Unreadable, Value, columns_made, done, items, count, area, space, sides, vacant}

@@ -1,6 +1,7 @@
 -- What a batch promises: 3 where the tables don't pass, 10 where the list of answers is too short, and else the answers, header and tables of the single calls, one
 -- after the other, from the atlas that is met in the tables. Assumes nothing.
-use Rattle.numbers.specs.Library.{ℕ, zero, suc, ◌≤◌, ◌<◌, ◌≡◌, List}
+use Rattle.std.specs.Prelude.{◌≤◌, ◌<◌, ◌≡◌}
+use Rattle.numbers.specs.Library.{ℕ, zero, suc, List}
 use Rattle.rows.specs.Prelude.{rows, get, put}
 use Rattle.rows.specs.declared.header.Header.{Header}
 use Rattle.rules.specs.Prelude.{Atlas, Room, room_in, atlas_in, Passes, standing, told_of, step_in, Unchanged, Becomes, Promise}

@@ -2,7 +2,7 @@
 use rows::header::Header;
 
 // What is asked (1 allocate, 2 release, 3 look-up), and its two numbers: the sides, or row and generation.
-#[derive(Drop)]
+#[derive(Clone, Copy)]
 pub struct Asking {
     pub kind: u16,
     pub first: u16,
@@ -10,7 +10,7 @@ pub struct Asking {
 }
 
 // An answer of document 01, and what is told beside it: zeros where nothing is.
-#[derive(Drop)]
+#[derive(Clone, Copy)]
 pub struct Told {
     pub answer: u16,
     pub row: u16,
@@ -22,7 +22,7 @@ pub struct Told {
 }
 
 // What a batch returns: 0 and how many requests were answered, or the number of a refusal and 0; and the header.
-#[derive(Drop)]
+#[derive(Clone, Copy)]
 pub struct Batched {
     pub answer: u16,
     pub count: u16,
@@ -30,7 +30,7 @@ pub struct Batched {
 }
 
 // A request's answer, and the header after it.
-#[derive(Drop)]
+#[derive(Clone, Copy)]
 pub struct Served {
     pub told: Told,
     pub header: Header,

@@ -1,5 +1,6 @@
 -- The cases of create and clear, over variables: from what the code has seen follows the part of their promises that is met. Assumes nothing.
-use Rattle.numbers.specs.Library.{ℕ, ◌<◌, ◌≤◌, ◌≡◌, refl, ap, Bool, true, false, not, ◌||◌, List, ℤ, ltb, lt-ltb, le-ltb, ltb-false}
+use Rattle.std.specs.Prelude.{◌<◌, ◌≤◌, ◌≡◌, ◌||◌}
+use Rattle.numbers.specs.Library.{ℕ, refl, ap, Bool, true, false, not, List, ℤ, ltb, lt-ltb, le-ltb, ltb-false}
 use mathlib.Core.Bool.{or-true}
 use Rattle.numbers.specs.Prelude.{pick, Decides, create_numbers, columns, WithinLimits, created_within}
 use Rattle.numbers.specs.declared.limits.Limits.{Limits}

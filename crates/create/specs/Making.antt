@@ -1,5 +1,6 @@
 -- A fresh atlas over the tables: answer 7 where either has fewer than C rows, else rows 0 to C - 1 of both are written. Assumes nothing.
-use Rattle.numbers.specs.Library.{ℕ, ◌≡◌, ◌||◌, List, ltb}
+use Rattle.std.specs.Prelude.{◌≡◌, ◌||◌}
+use Rattle.numbers.specs.Library.{ℕ, List, ltb}
 use Rattle.numbers.specs.Prelude.{pick, columns}
 use Rattle.numbers.specs.declared.limits.Limits.{Limits}
 use Rattle.rows.specs.Prelude.{rows, items, shelves, zero_header}

@@ -1,4 +1,6 @@
 // The public calls create and clear: both leave a fresh atlas.
+#![tactic(auto)]
+
 ghost use Rattle.std.specs.Prelude.{◌≡◌};
 ghost use Rattle.rows.specs.Prelude.{zero_header};
 ghost use Rattle.promises.specs.Prelude.{Creates, Clears};

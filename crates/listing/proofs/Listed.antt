@@ -1,5 +1,6 @@
 -- The list: what is written to the lent list is the list of the atlas that is met in the tables. Assumes nothing.
-use Rattle.numbers.specs.Library.{ℕ, zero, suc, ◌+◌, ◌≤◌, ◌<◌, ◌≡◌, refl, ap, ◌∙◌, ◌≢◌, Bool, true, false, not, List, [], ◌∷◌, ◌++◌, append-nil, add-one, arith, eqb}
+use Rattle.std.specs.Prelude.{◌+◌, ◌≤◌, ◌<◌, ◌≡◌, ◌≢◌, ◌∷◌, ◌++◌}
+use Rattle.numbers.specs.Library.{ℕ, zero, suc, refl, ap, ◌∙◌, Bool, true, false, not, List, [], append-nil, add-one, arith, eqb}
 use Rattle.numbers.specs.Library.{length, length-append, dec_lt, eq-eqb, ne_eqb, lt-ltb, le-ltb}
 use Rattle.numbers.specs.Prelude.{pick, Decides}
 use Rattle.rows.specs.Prelude.{rows, rows_long, get, put, length-put, items, shelves}

@@ -1,3 +1,5 @@
 // The public call that lists the live items. It changes nothing but the list that it is lent.
+#![tactic(auto)]
+
 pub mod list;
 pub mod records;

@@ -1,5 +1,6 @@
 -- One call on a header and tables that pass: each of demand 3's facts for it. Assumes nothing.
-use Rattle.numbers.specs.Library.{ℕ, ◌≡◌, refl, sym, ap, ◌∙◌, ◌≢◌, subst, Option, none, some, [], ℤ, arith}
+use Rattle.std.specs.Prelude.{◌≡◌, ◌≢◌}
+use Rattle.numbers.specs.Library.{ℕ, refl, sym, ap, ◌∙◌, subst, Option, none, some, [], ℤ, arith}
 use Rattle.numbers.specs.Prelude.{asked}
 use Rattle.numbers.specs.declared.{request.Asked.Asked, request.Request.Request}
 use Rattle.numbers.specs.declared.request.Request.TheVariants.{Good, Refused}

@@ -1,12 +1,13 @@
 -- Demand 3, from one call to any run of them. Assumes nothing.
-use Rattle.numbers.specs.Library.{ℕ, ◌+◌, ◌*◌, ◌<◌, ◌≡◌, refl, sym, ap, ◌∙◌, List, [], ◌∷◌, ◌++◌, arith, eq-eqb, ne_eqb}
+use Rattle.std.specs.Prelude.{◌+◌, ◌*◌, ◌<◌, ◌≡◌, ◌∷◌, ◌++◌}
+use Rattle.numbers.specs.Library.{ℕ, refl, sym, ap, ◌∙◌, List, [], arith, eq-eqb, ne_eqb}
 use Rattle.numbers.specs.Prelude.{space_left}
 use Rattle.numbers.specs.declared.limits.Limits.{Limits}
 use Rattle.rows.specs.declared.live.Live.{Live}
 use Rattle.shelf_edits.specs.State.{State}
 use Rattle.chains.specs.Prelude.{Each}
 use Rattle.chains.proofs.Prelude.{each_map}
-use Rattle.rules.specs.Prelude.{release, free_space, size_x, size_y, WellFormed}
+use Rattle.rules.specs.Prelude.{free_space, size_x, size_y, WellFormed}
 use Rattle.laws.specs.Lives.{lives, OneMore, Pairs, Inside, area, areas}
 use Rattle.laws.proofs.Stored.Reading.{formed}
 use Rattle.laws.proofs.Shape.Flat.{Across}
@@ -41,11 +42,11 @@ module _ (st : State) (pass : Pass st) where
   all_inside = list_each (room st) (atlas st) well_formed (LiesIn st) (each_map (Inside (atlas st).limits) (LiesIn st) lies_in (lives (atlas st)) (lives_inside (room st) (atlas st) well_formed))
 
   occupied_is_live : st.header.occupied ≡ areas (live st)
-  occupied_is_live = sym (calls.occupied-is st.header st.shelves st.items pass) ∙ occupied_lives (atlas st) ∙ sym (list_areas (room st) (atlas st) well_formed)
+  occupied_is_live = sym (calls.occupied_is st.header st.shelves st.items pass) ∙ occupied_lives (atlas st) ∙ sym (list_areas (room st) (atlas st) well_formed)
 
   space_left_lem : free_space (atlas st) + st.header.occupied ≡ st.header.limits.width * st.header.limits.height
   unfolding space_left
-  space_left_lem = omega (arith, calls.free-is st.header st.shelves st.items pass, calls.occupied-fits st.header st.shelves st.items pass)
+  space_left_lem = omega (arith, calls.free_is st.header st.shelves st.items pass, calls.occupied_fits st.header st.shelves st.items pass)
 
   -- a row has one live rectangle
   one_of_an_id : Across (λ u v. SameId u v → u ≡ v) (live st) (live st)

@@ -1,5 +1,6 @@
 -- Answer 3 is none that a request gets where the tables pass. Assumes nothing.
-use Rattle.numbers.specs.Library.{ℕ, refl, subst, ◌≢◌, ◌&&◌, ℤ, arith, leb}
+use Rattle.std.specs.Prelude.{◌≢◌, ◌&&◌}
+use Rattle.numbers.specs.Library.{ℕ, refl, subst, ℤ, arith, leb}
 use Rattle.numbers.specs.Prelude.{first_axis, second_axis, side_of, asked_of, asked}
 use Rattle.numbers.specs.Round.{round_up}
 use Rattle.numbers.specs.Request.{asked_within, judged}
@@ -7,7 +8,7 @@ use Rattle.numbers.specs.declared.{sides.Side.Side, limits.Limits.Limits, reques
 use Rattle.numbers.specs.declared.sides.Side.TheVariants.{Fits, Bad}
 use Rattle.numbers.specs.declared.request.Request.TheVariants.{Good, Refused}
 use Rattle.rows.specs.declared.live.Live.{Live}
-use Rattle.rules.specs.Prelude.{Atlas, Room, nothing, grant}
+use Rattle.rules.specs.Prelude.{Atlas, Room, grant}
 use Rattle.rules.specs.Prelude.{Outcome, refused, gives, Given, WellFormed, allocate}
 use Rattle.laws.proofs.Shape.Around.{pick_cases}
 use Rattle.laws.proofs.Shape.Granting.{place_so, grant_so}

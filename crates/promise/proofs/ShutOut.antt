@@ -1,5 +1,6 @@
 -- The wrong programs that document 01 names under "What a promise has to say here", each shut out by the fields of demand 3. Assumes nothing.
-use Rattle.numbers.specs.Library.{ℕ, ◌+◌, ◌-◌, ◌≤◌, mul-le-mul, ◌<◌, ◌≡◌, refl, ap, ◌≢◌, subst, List, [], ◌∷◌, ◌++◌, ℤ, pos, arith}
+use Rattle.std.specs.Prelude.{◌+◌, ◌-◌, ◌≤◌, ◌<◌, ◌≡◌, ◌≢◌, ◌∷◌, ◌++◌}
+use Rattle.numbers.specs.Library.{ℕ, mul-le-mul, refl, ap, subst, List, [], ℤ, pos, arith}
 use Rattle.numbers.specs.Prelude.{columns, asked}
 use Rattle.numbers.specs.declared.{limits.Limits.Limits, request.Asked.Asked}
 use Rattle.numbers.specs.declared.request.Request.TheVariants.{Good}

@@ -1,5 +1,6 @@
 -- What each call comes to on tables that pass, taken from its promise: the outcome of the rules' own call, with the atlas that it leaves. Assumes nothing.
-use Rattle.numbers.specs.Library.{ℕ, ◌≡◌, refl, sym, subst, ap, ◌∙◌, Bool, true, false, some, List, ℤ, length, arith, ltb}
+use Rattle.std.specs.Prelude.{◌≡◌}
+use Rattle.numbers.specs.Library.{ℕ, refl, sym, subst, ap, ◌∙◌, Bool, true, false, some, List, ℤ, length, arith, ltb}
 use Rattle.numbers.specs.Prelude.{pick}
 use Rattle.rows.specs.Prelude.{rows}
 use Rattle.rows.specs.declared.live.Live.{Live}

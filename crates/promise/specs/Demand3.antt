@@ -9,7 +9,8 @@
 -- released, is the total at its start with the areas granted, counted since the last clear, which starts from 0; free space is W x H less that.
 --
 -- Pixels, sides and sizes are the caller's x and y, with vertical shelves or without. A fact more is a field more. Assumes nothing.
-use Rattle.numbers.specs.Library.{ℕ, ◌+◌, ◌*◌, ◌<◌, ◌≡◌, ◌≢◌}
+use Rattle.std.specs.Prelude.{◌+◌, ◌*◌, ◌<◌, ◌≡◌, ◌≢◌}
+use Rattle.numbers.specs.Library.{ℕ}
 use Rattle.rows.specs.declared.live.Live.{Live}
 use Rattle.shelf_edits.specs.State.{State}
 use Rattle.chains.specs.Prelude.{Each}

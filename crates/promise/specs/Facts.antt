@@ -1,6 +1,7 @@
 -- What demand 3 says of a state, of a step and of a run, in the caller's terms: live rectangles as `list` tells them, pixels in x and y, and raw sides.
 -- Assumes nothing.
-use Rattle.numbers.specs.Library.{ℕ, ◌+◌, ◌<◌, ◌≡◌, ◌&&◌, List, [], ◌∷◌, eqb, length}
+use Rattle.std.specs.Prelude.{◌+◌, ◌<◌, ◌≡◌, ◌&&◌, ◌∷◌}
+use Rattle.numbers.specs.Library.{ℕ, List, [], eqb, length}
 use Rattle.numbers.specs.Prelude.{pick, asked}
 use Rattle.numbers.specs.declared.request.Asked.{Asked}
 use Rattle.numbers.specs.declared.request.Request.TheVariants.{Good, Refused}

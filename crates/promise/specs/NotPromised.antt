@@ -1,5 +1,6 @@
 -- What is not promised, by computed examples. Assumes nothing.
-use Rattle.numbers.specs.Library.{ℕ, ◌≡◌, refl, [], ◌∷◌, none, pos}
+use Rattle.std.specs.Prelude.{◌≡◌, ◌∷◌}
+use Rattle.numbers.specs.Library.{ℕ, refl, [], none, pos}
 use Rattle.rules.specs.Prelude.{Room, Outcome, gives, Create, Allocate, Release, Value, columns_made, done, run}
 use Rattle.rules.specs.Step.{item}
 

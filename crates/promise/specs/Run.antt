@@ -1,6 +1,7 @@
 -- Runs of the public calls on a header and two tables to which nobody else writes: each call keeps its promise, and leaves what the next one finds.
 -- Assumes nothing.
-use Rattle.numbers.specs.Library.{ℕ, ◌≡◌, List, ℤ}
+use Rattle.std.specs.Prelude.{◌≡◌}
+use Rattle.numbers.specs.Library.{ℕ, List, ℤ}
 use Rattle.shelf_edits.specs.State.{State}
 use Rattle.rules.specs.Prelude.{Outcome, Value}
 use Rattle.promises.specs.Prelude.{grants, replies, listings, Allocates, Releases, Clears, LooksUp, Lists}

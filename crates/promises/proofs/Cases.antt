@@ -1,6 +1,7 @@
 -- The cases of a promise, over variables: a call is refused at its first check, refused later, or gives something. From what the code has seen
 -- follows the part of its promise that is met. Assumes nothing.
-use Rattle.numbers.specs.Library.{ℕ, ◌≡◌, refl, Bool, true, false, not, List, ℤ}
+use Rattle.std.specs.Prelude.{◌≡◌}
+use Rattle.numbers.specs.Library.{ℕ, refl, Bool, true, false, not, List, ℤ}
 use Rattle.numbers.specs.Prelude.{Decides, denied, allowed}
 use Rattle.rows.specs.Prelude.{past_same, items, shelves, zero_header}
 use Rattle.rows.specs.declared.header.Header.{Header}

@@ -1,7 +1,8 @@
 -- "Numbers after the used rows are never read", for every call: two states of the same lengths that agree on the header and the used rows are answered
 -- alike, and what is left agrees on the header and the used rows again. What a call asks holds for both or for neither, the step that it takes is
 -- one and the same, and its outcome tells the used rows that it leaves. One proof for all calls. Assumes nothing.
-use Rattle.numbers.specs.Library.{ℕ, arith, ◌≡◌, refl, sym, ap, ◌∙◌, Bool, true, false, List, ℤ, length}
+use Rattle.std.specs.Prelude.{◌≡◌}
+use Rattle.numbers.specs.Library.{ℕ, arith, refl, sym, ap, ◌∙◌, Bool, true, false, List, ℤ, length}
 use Rattle.numbers.specs.Prelude.{pick}
 use Rattle.rows.specs.Prelude.{rows, zero_header}
 use Rattle.rows.specs.declared.header.Header.{Header}

@@ -1,6 +1,7 @@
 -- The numbers of each answer are document 01's for the call that gives it: a wrong table of numbers is refused here, and in every promise.
 -- Assumes nothing.
-use Rattle.numbers.specs.Library.{ℕ, ◌≡◌, refl, ap, ◌∙◌, ℤ}
+use Rattle.std.specs.Prelude.{◌≡◌}
+use Rattle.numbers.specs.Library.{ℕ, refl, ap, ◌∙◌, ℤ}
 use Rattle.rules.specs.Prelude.{Outcome, Call, Create, Allocate, Release, LookUp, ListIn, Clear, Occupied, FreeSpace, Size, IsEmpty, Value, answer_numbers}
 use Rattle.rules.specs.Prelude.{Answering, Answers}
 use Rattle.promises.specs.Prelude.{creations, grants, replies, areas, extents, vacancies, listings}

@@ -1,6 +1,7 @@
 -- Any two outcomes that a promise allows are equal: the answer, the header, every number of both tables and of a lent list. One proof for all calls.
 -- Assumes nothing.
-use Rattle.numbers.specs.Library.{ℕ, ◌≡◌, sym, ◌∙◌, List, ℤ}
+use Rattle.std.specs.Prelude.{◌≡◌}
+use Rattle.numbers.specs.Library.{ℕ, sym, ◌∙◌, List, ℤ}
 use Rattle.rows.specs.Prelude.{rows, zero_header}
 use Rattle.rows.specs.declared.header.Header.{Header}
 use Rattle.rules.specs.Prelude.{Outcome, refused, gives, Given, Call, Create, Allocate, Release, LookUp, ListIn, Clear, Occupied, FreeSpace, Size, IsEmpty}

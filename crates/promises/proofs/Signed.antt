@@ -1,5 +1,6 @@
 -- Signed numbers handed on, two and six of them: each reaches the callee through its bits, and is the number that was given. Assumes nothing.
-use Rattle.numbers.specs.Library.{◌≡◌, ℤ, w32, SFits, to_z, of_z}
+use Rattle.std.specs.Prelude.{◌≡◌}
+use Rattle.numbers.specs.Library.{ℤ, w32, SFits, to_z, of_z}
 use Rattle.numbers.proofs.Signed.{as_given}
 
 pub as_given_2 : {A : Type 0} (f : ℤ → ℤ → A) {r : A} {a b : ℤ} → SFits w32 a → SFits w32 b → r ≡ f (to_z w32 (of_z w32 a)) (to_z w32 (of_z w32 b)) → r ≡ f a b

@@ -1,7 +1,8 @@
 -- Every call's promise is one step of the rules. With the all-zero header no audit passes, so it is the step with no atlas; where the tables pass, what
 -- any call asks holds, so it is the step with the atlas that is met there; and what it leaves holds the atlas that stands after the step. So the
 -- promises of a run of calls are a run of the rules. Assumes nothing.
-use Rattle.numbers.specs.Library.{ℕ, ◌≡◌, refl, ap, Bool, true, false, false≢true, List, Option, none, some, length}
+use Rattle.std.specs.Prelude.{◌≡◌}
+use Rattle.numbers.specs.Library.{ℕ, refl, ap, Bool, true, false, false≢true, List, Option, none, some, length}
 use Rattle.numbers.specs.Prelude.{pick, pick_same}
 use Rattle.rows.specs.Prelude.{rows_long, items, shelves, zero_header}
 use Rattle.rows.specs.declared.header.Header.{Header}

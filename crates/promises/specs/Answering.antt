@@ -1,5 +1,6 @@
 -- Each type of answers as the promises read it: what its cases say, their numbers, and that no two cases say the same. Assumes nothing.
-use Rattle.numbers.specs.Library.{ℕ, ◌≡◌, refl, sym, arith}
+use Rattle.std.specs.Prelude.{◌≡◌}
+use Rattle.numbers.specs.Library.{ℕ, refl, sym, arith}
 use Rattle.rules.specs.Prelude.{Outcome, refused, gives, Answering}
 use Rattle.promises.specs.declared.{answers.Creation.Creation, answers.Grant.Grant, answers.Reply.Reply, answers.Area.Area, answers.Extent.Extent}
 use Rattle.promises.specs.declared.{answers.Vacancy.Vacancy, answers.Listing.Listing}

@@ -1,6 +1,7 @@
 -- How the public calls' answers are read: what each case says, and in which of document 01's numbers: 0 and the values for a success; for a
 -- refusal its number, and zeros. Assumes nothing.
-use Rattle.numbers.specs.Library.{ℕ, List, [], ◌∷◌}
+use Rattle.std.specs.Prelude.{◌∷◌}
+use Rattle.numbers.specs.Library.{ℕ, List, []}
 use Rattle.numbers.specs.Prelude.{pick}
 use Rattle.rules.specs.Prelude.{Outcome, refused, gives, Value, live_numbers}
 use Rattle.rules.specs.Step as value

@@ -1,6 +1,7 @@
 -- What each public call promises, for every header, every two tables and whatever is asked: it is one step of the rules. `S` and `I` are the shelf
 -- and the item table before the call, `S'` and `I'` after it, `r` is what it returns. Assumes nothing.
-use Rattle.numbers.specs.Library.{ℕ, ◌≡◌, List, ℤ}
+use Rattle.std.specs.Prelude.{◌≡◌}
+use Rattle.numbers.specs.Library.{ℕ, List, ℤ}
 use Rattle.rows.specs.Prelude.{rows, zero_header}
 use Rattle.rows.specs.declared.header.Header.{Header}
 use Rattle.rules.specs.Prelude.{Outcome, Call, Create, Allocate, Release, LookUp, ListIn, Clear, Occupied, FreeSpace, Size, IsEmpty, Value, Answering, Answers}

@@ -1,5 +1,6 @@
 -- A lent list of live records: six numbers to a record, in the order of an answer. Assumes nothing.
-use Rattle.numbers.specs.Library.{ℕ, suc, refl, List, [], ◌∷◌, lit<, length, get_or}
+use Rattle.std.specs.Prelude.{◌∷◌}
+use Rattle.numbers.specs.Library.{ℕ, suc, refl, List, [], lit<, length, get_or}
 use Rattle.rows.specs.Prelude.{each_all, Shape, put}
 use Rattle.rows.specs.declared.live.Live.{Live}
 use Rattle.rules.specs.Prelude.{Outcome, refused, gives, mapped, Value, columns_made, done, items, count, area, space, sides, vacant, live_numbers}

@@ -1,5 +1,6 @@
 -- The cases of each call but list, over variables: from what the code has seen follows the part of its promise that is met. Assumes nothing.
-use Rattle.numbers.specs.Library.{ℕ, ◌≡◌, refl, ◌≢◌, Bool, true, false, not, List, eq-eqb, ne_eqb}
+use Rattle.std.specs.Prelude.{◌≡◌, ◌≢◌}
+use Rattle.numbers.specs.Library.{ℕ, refl, Bool, true, false, not, List, eq-eqb, ne_eqb}
 use Rattle.numbers.specs.Prelude.{Decides, space_left}
 use Rattle.rows.specs.declared.{header.Header.Header, live.Live.Live}
 use Rattle.rules.specs.Prelude.{refused, gives, mapped, room_in, atlas_in, Passes, Call, LookUp, Occupied, FreeSpace, Size, IsEmpty, Value, area, sides, vacant}

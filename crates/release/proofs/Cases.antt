@@ -1,5 +1,6 @@
 -- The cases of release, over variables: from what the code has seen follows the part of its promise that is met. Assumes nothing.
-use Rattle.numbers.specs.Library.{ℕ, ◌≡◌, refl, Bool, true, false, not, List}
+use Rattle.std.specs.Prelude.{◌≡◌}
+use Rattle.numbers.specs.Library.{ℕ, refl, Bool, true, false, not, List}
 use Rattle.numbers.specs.Prelude.{Decides}
 use Rattle.rows.specs.declared.header.Header.{Header}
 use Rattle.rules.specs.Prelude.{mapped, Passes, Release, is_create, tells, step_in, step_without, Asks}

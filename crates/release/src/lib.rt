@@ -1,4 +1,6 @@
 // The public call release: the item that an id names is free again.
+#![tactic(auto)]
+
 ghost use Rattle.std.specs.Prelude.{◌≡◌};
 ghost use Rattle.rules.specs.Prelude.{Passes};
 ghost use Rattle.promises.specs.Prelude.{Releases};

@@ -1,5 +1,7 @@
 // The calls that change an atlas, with its header lent and changed in place: each reads it, makes the call by value, and stores what that returns. They promise
 // what the calls by value do, of the header as it stands when they return.
+#![tactic(auto)]
+
 ghost use Rattle.promises.specs.Prelude.{Allocates, Releases, Clears};
 
 use promises::answers::{Grant, Reply};

@@ -1,6 +1,7 @@
 -- The call over a list of numbers (`listing`) and this one say the same: where the numbers are the records', the answers are equal, and so are the
 -- numbers that are left. A list of numbers counts as 65535 records at most, so it is said of lists of no more. Assumes nothing.
-use Rattle.numbers.specs.Library.{ℕ, zero, suc, ◌+◌, ◌-◌, ◌*◌, ◌≤◌, ◌<◌, ◌≡◌, refl, sym, ◌∙◌, List, [], ◌∷◌, ◌++◌, append_assoc, append-nil, arith, length, length-append}
+use Rattle.std.specs.Prelude.{◌+◌, ◌-◌, ◌*◌, ◌≤◌, ◌<◌, ◌≡◌, ◌∷◌, ◌++◌}
+use Rattle.numbers.specs.Library.{ℕ, zero, suc, refl, sym, ◌∙◌, List, [], append_assoc, append-nil, arith, length, length-append}
 use Rattle.numbers.specs.Library.{dec_lt}
 use lib.Seq.{take_at, drop_at}
 use Rattle.numbers.specs.Prelude.{most_rows}

@@ -1,5 +1,6 @@
 -- The records of the live rows so far, laid over the lent list one after the other; and what the checks have decided. Assumes nothing.
-use Rattle.numbers.specs.Library.{ℕ, zero, suc, ◌+◌, ◌≤◌, ◌<◌, ◌^◌, ◌≡◌, refl, sym, ap, ◌∙◌, ◌≢◌, Bool, true, not, List, [], ◌∷◌, ◌++◌, append-nil, append_assoc}
+use Rattle.std.specs.Prelude.{◌+◌, ◌≤◌, ◌<◌, ◌^◌, ◌≡◌, ◌≢◌, ◌∷◌, ◌++◌}
+use Rattle.numbers.specs.Library.{ℕ, zero, suc, refl, sym, ap, ◌∙◌, Bool, true, not, List, [], append-nil, append_assoc}
 use Rattle.numbers.specs.Library.{add-one, arith, length, length-append, take, set, take_all, dec_lt, eq-eqb, ne_eqb, lt-ltb, le-ltb, lit<}
 use lib.Seq.{take_at}
 use Rattle.numbers.specs.Prelude.{Decides}

@@ -1,6 +1,7 @@
 -- Any two outcomes that the promise allows are equal: the answer, and every record of the lent list. And numbers after the used rows are never read.
 -- Assumes nothing.
-use Rattle.numbers.specs.Library.{ℕ, ◌≡◌, sym, ◌∙◌, List, length}
+use Rattle.std.specs.Prelude.{◌≡◌}
+use Rattle.numbers.specs.Library.{ℕ, sym, ◌∙◌, List, length}
 use Rattle.rows.specs.declared.{header.Header.Header, live.Live.Live}
 use Rattle.rules.specs.Prelude.{Outcome, Call, ListIn, Value}
 use Rattle.laws.specs.Same.{SameRead}

@@ -1,5 +1,6 @@
 -- What list promises of a lent list of live records: what it promises of a lent list of their numbers (`Lists` of `promises`). Assumes nothing.
-use Rattle.numbers.specs.Library.{ℕ, ◌≡◌, List, [], ◌∷◌, length}
+use Rattle.std.specs.Prelude.{◌≡◌, ◌∷◌}
+use Rattle.numbers.specs.Library.{ℕ, List, [], length}
 use Rattle.rows.specs.declared.{header.Header.Header, live.Live.Live}
 use Rattle.rules.specs.Prelude.{Outcome, refused, gives, Call, ListIn, Value, Answers, Promise}
 use Rattle.promises.specs.Prelude.{listings, items_told, counted}

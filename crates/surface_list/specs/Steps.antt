@@ -1,5 +1,6 @@
 -- What the two steps of list promise: its checks, and the next live item. Assumes nothing.
-use Rattle.numbers.specs.Library.{ℕ, ◌≤◌, ◌<◌, ◌≡◌, List, [], ◌∷◌, ◌++◌, length, take}
+use Rattle.std.specs.Prelude.{◌≤◌, ◌<◌, ◌≡◌, ◌∷◌, ◌++◌}
+use Rattle.numbers.specs.Library.{ℕ, List, [], length, take}
 use Rattle.rows.specs.declared.{header.Header.Header, live.Live.Live}
 use Rattle.rules.specs.Prelude.{Outcome, Call, ListIn, Value, Answers, Promise}
 use Rattle.live_rows.specs.Live.{rows_listed}

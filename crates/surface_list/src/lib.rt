@@ -1,4 +1,6 @@
-// List, with the live items written to a lent list of records: the call of `listing` has a list of their numbers. Its loop is proved by a walk of its code.
+// List, with the live items written to a lent list of records: the call of `listing` has a list of their numbers.
+#![tactic(auto)]
+
 ghost use Rattle.surface_list.specs.Lives.{ListsLives};
 ghost use Rattle.surface_list.specs.Steps.{ListChecked, NextLive};
 
@@ -10,14 +12,14 @@ use rows::live::Live;
 use rows::{item, shelf};
 
 // What list answers, and how many records it writes: none where it is refused.
-#[derive(Drop)]
+#[derive(Clone, Copy)]
 struct Checked {
     answer: Listing,
     count: u16,
 }
 
 // A live item, and the row after it.
-#[derive(Drop)]
+#[derive(Clone, Copy)]
 struct Found {
     live: Live,
     after: u16,

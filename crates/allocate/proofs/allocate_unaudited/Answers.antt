@@ -1,0 +1,21 @@
+-- `allocate_unaudited`: 4 and 5, then what the atlas gives.
+use Rattle.numbers.specs.Library.{sym, ◌∙◌}
+use Rattle.numbers.specs.Prelude.{asked}
+use Rattle.promises.proofs.Signed.{as_given_2}
+use Rattle.allocate.proofs.Grants.{allocates_asked, allocates_refused}
+use Rattle.allocate.proofs.allocate_unaudited.Goals as goal
+
+pub grant_asked-requires : goal.grant_asked-requires
+grant_asked-requires c = c.requires
+
+pub returns-in-Good : goal.returns-in-Good
+returns-in-Good c =
+    allocates_asked _ _ _ c.args.w c.args.height c.requires _
+    (sym (as_given_2 (asked c.args.h.limits) c.ranges.w c.ranges.height c.check_request-request.ensures) ∙ c.in-Good.is)
+    _ _ _ c.grant_asked.ensures
+
+pub returns-in-Refused : goal.returns-in-Refused
+returns-in-Refused c =
+    allocates_refused _ _ _ c.args.w c.args.height c.requires _
+    (sym (as_given_2 (asked c.args.h.limits) c.ranges.w c.ranges.height c.check_request-request.ensures) ∙ c.in-Refused.is)
+    _ c.refused.ensures

@@ -1,0 +1,5 @@
+-- The call by value promises this. Written out, so that a wrong header is told by name.
+use Rattle.surface.proofs.release.Goals as goal
+
+pub returns : goal.returns
+returns c = c.release-released.ensures
