@@ -1,6 +1,6 @@
 #!/usr/bin/env python3
 """Damages images in every way that load tells apart, and holds what image_show tells of each against what was damaged:
-    rt check image_show && python3 crates/image_show/damaged.py target/bin/image_show
+    tools/built image_show && python3 crates/image_show/damaged.py target/bin/image_show
 Not part of the gate. Says how many were tried, and ends with 1 where one was told otherwise."""
 import os
 import subprocess

@@ -1,5 +1,6 @@
 -- What the tests of one block say: its heading, the words after its data, and its check. Assumes nothing.
-use Rattle.numbers.specs.Library.{ℕ, ◌+◌, ◌-◌, ◌*◌, ◌%◌, ◌≤◌, ◌≡◌, refl, sym, ap, ◌∙◌, Bool, false, List, [], ◌∷◌, length, get_or, take, drop, take_all, arith, eqb, eqb-true, eq-eqb}
+use Rattle.std.specs.Prelude.{◌+◌, ◌-◌, ◌*◌, ◌%◌, ◌≤◌, ◌≡◌, ◌∷◌}
+use Rattle.numbers.specs.Library.{ℕ, refl, sym, ap, ◌∙◌, Bool, false, List, [], length, get_or, take, drop, take_all, arith, eqb, eqb-true, eq-eqb}
 use Rattle.numbers.specs.Prelude.{Decides, refuted}
 use Rattle.image_form.specs.Bytes.{words_of, total}
 use Rattle.image_form.specs.Blocks.{heading}

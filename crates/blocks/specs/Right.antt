@@ -1,5 +1,6 @@
 -- What is asked of the words of a block that is met. Assumes nothing.
-use Rattle.numbers.specs.Library.{ℕ, ◌+◌, ◌-◌, ◌%◌, ◌≡◌, List, get_or, take, drop}
+use Rattle.std.specs.Prelude.{◌+◌, ◌-◌, ◌%◌, ◌≡◌}
+use Rattle.numbers.specs.Library.{ℕ, List, get_or, take, drop}
 use Rattle.image_form.specs.Bytes.{total}
 use Rattle.image_form.specs.Blocks.{block}
 use Rattle.image_form.specs.Form1.{form1}

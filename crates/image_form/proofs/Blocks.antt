@@ -1,5 +1,6 @@
 -- A block of form 1 by its pieces: what stands in front, the data, the zeros after it, and the check. Assumes nothing.
-use Rattle.numbers.specs.Library.{ℕ, zero, suc, ◌+◌, ◌-◌, ◌*◌, ◌%◌, ◌≤◌, ◌≡◌, refl, sym, ap, ◌∙◌, List, [], ◌++◌, ◌∷◌, append_assoc, length, get_or, take, drop, arith}
+use Rattle.std.specs.Prelude.{◌+◌, ◌-◌, ◌*◌, ◌%◌, ◌≤◌, ◌≡◌, ◌++◌, ◌∷◌}
+use Rattle.numbers.specs.Library.{ℕ, zero, suc, refl, sym, ap, ◌∙◌, List, [], append_assoc, length, get_or, take, drop, arith}
 use Rattle.numbers.specs.Library.{length-append, length-drop, length-take-le, drop-cons}
 use lib.ListN.{replicate, length-replicate, take-append-drop, drop_of_length-le}
 use lib.Seq.{take_at, drop-drop, take-add}

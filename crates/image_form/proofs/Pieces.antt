@@ -1,5 +1,6 @@
 -- Pieces put one after the other: each is found again where it stands, and a list that has them there is made of them. Assumes nothing.
-use Rattle.numbers.specs.Library.{ℕ, zero, suc, ◌+◌, ◌*◌, ◌≤◌, ◌<◌, ◌≡◌, refl, ◌∙◌, List, ◌++◌, length, length-append, length-drop, take, drop, arith, dec_lt, take_all, suc-mul}
+use Rattle.std.specs.Prelude.{◌+◌, ◌*◌, ◌≤◌, ◌<◌, ◌≡◌, ◌++◌}
+use Rattle.numbers.specs.Library.{ℕ, zero, suc, refl, ◌∙◌, List, length, length-append, length-drop, take, drop, arith, dec_lt, take_all, suc-mul}
 use Rattle.numbers.specs.Library.{mul-le-mul_right}
 use lib.Seq.{drop_at, take-append-le, drop-append-le, take-add, take-length}
 use Rattle.image_form.specs.Blocks.{up_to}

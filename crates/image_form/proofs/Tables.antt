@@ -1,5 +1,6 @@
 -- The first rows of a table and their numbers: they tell each other, and rows that are stored are the first rows of the table after that. Assumes nothing.
-use Rattle.numbers.specs.Library.{ℕ, zero, suc, ◌+◌, ◌-◌, ◌*◌, ◌≤◌, ◌<◌, ◌≡◌, refl, sym, ap, ◌∙◌, List, [], ◌++◌, ◌∷◌, append_assoc, append-nil, length, length-append, take, drop}
+use Rattle.std.specs.Prelude.{◌+◌, ◌-◌, ◌*◌, ◌≤◌, ◌<◌, ◌≡◌, ◌++◌, ◌∷◌}
+use Rattle.numbers.specs.Library.{ℕ, zero, suc, refl, sym, ap, ◌∙◌, List, [], append_assoc, append-nil, length, length-append, take, drop}
 use Rattle.numbers.specs.Library.{length-drop, length-take-le, arith, suc-mul, dec_lt}
 use native.Mathlib.Nat.{add-sub_cancel_left}
 use lib.Seq.{take_at, drop_at, take-add, take-append-add, drop-append-add, take-nil, drop-nil}

@@ -1,5 +1,6 @@
 -- Words and bytes tell each other; a part of the one is a part of the other. Assumes nothing.
-use Rattle.numbers.specs.Library.{ℕ, zero, suc, ◌+◌, ◌*◌, ◌/◌, ◌%◌, ◌<◌, ◌≡◌, refl, ap, List, [], ◌++◌, ◌∷◌, length, get_or, take, drop, arith}
+use Rattle.std.specs.Prelude.{◌+◌, ◌*◌, ◌/◌, ◌%◌, ◌<◌, ◌≡◌, ◌++◌, ◌∷◌}
+use Rattle.numbers.specs.Library.{ℕ, zero, suc, refl, ap, List, [], length, get_or, take, drop, arith}
 use lib.ListN.{replicate}
 use Rattle.image_form.specs.Bytes.{bytes_of, words_of, total}
 

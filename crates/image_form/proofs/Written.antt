@@ -1,5 +1,6 @@
 -- A list written over part by part, from its front on: what is written so far, and the rest as it was. Assumes nothing.
-use Rattle.numbers.specs.Library.{ℕ, zero, suc, ◌+◌, ◌-◌, ◌≤◌, ◌≡◌, refl, sym, ap, ◌∙◌, List, [], ◌∷◌, ◌++◌, append_assoc, append-nil, length, length-append, length-drop, take, drop, arith}
+use Rattle.std.specs.Prelude.{◌+◌, ◌-◌, ◌≤◌, ◌≡◌, ◌∷◌, ◌++◌}
+use Rattle.numbers.specs.Library.{ℕ, zero, suc, refl, sym, ap, ◌∙◌, List, [], append_assoc, append-nil, length, length-append, length-drop, take, drop, arith}
 use lib.ListN.{drop_of_length-le}
 use lib.Seq.{take_at, take-take, drop_at, drop-drop}
 

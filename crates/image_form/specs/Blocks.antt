@@ -1,7 +1,7 @@
 -- What every saved form has in common: blocks of one length, numbered through the image, with the form, the kind and the count of rows in front, and zeros
 -- after the data. A form says how much data a block has room for and which check ends it. Assumes nothing.
-use Rattle.numbers.specs.Library.{ℕ, zero, suc, ◌+◌, ◌-◌, ◌*◌, ◌/◌, List, [], ◌++◌, ◌∷◌, length, take, drop}
-use Rattle.std.specs.Prelude.{replicate}
+use Rattle.numbers.specs.Library.{ℕ, zero, suc, List, [], length, take, drop}
+use Rattle.std.specs.Prelude.{◌+◌, ◌-◌, ◌*◌, ◌/◌, ◌++◌, ◌∷◌, replicate}
 use Rattle.rows.specs.Prelude.{Shape}
 use Rattle.chains.specs.Prelude.{gather}
 

@@ -1,5 +1,6 @@
 -- Numbers of 16 bits, words here, and their bytes. Assumes nothing.
-use Rattle.numbers.specs.Library.{ℕ, ◌+◌, ◌*◌, ◌/◌, ◌%◌, List, [], ◌++◌, ◌∷◌, length, drop}
+use Rattle.std.specs.Prelude.{◌+◌, ◌*◌, ◌/◌, ◌%◌, ◌++◌, ◌∷◌}
+use Rattle.numbers.specs.Library.{ℕ, List, [], length, drop}
 
 -- "Numbers little-endian." A number of more than 16 bits has no bytes: what would be its second byte is 256 or more.
 unfoldable pub bytes_of : List ℕ → List ℕ

@@ -1,6 +1,7 @@
 -- Images computed: the atlas of 100 x 40 with one live item 30 wide, a free one beside it and a freed row, as `image_runs/make.py` saves it; and counts of
 -- blocks at their limits. Assumes nothing.
-use Rattle.numbers.specs.Library.{ℕ, ◌≡◌, refl, List, [], ◌∷◌, length, take, drop}
+use Rattle.std.specs.Prelude.{◌≡◌, ◌∷◌}
+use Rattle.numbers.specs.Library.{ℕ, refl, List, [], length, take, drop}
 use Rattle.numbers.specs.Prelude.{no_row}
 use Rattle.rows.specs.Prelude.{shelf_of, item_of, items, shelves}
 use Rattle.rows.specs.Header.{header_of}

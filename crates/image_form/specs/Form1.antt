@@ -1,5 +1,6 @@
 -- Document 01's "Saved form 1": what it says beside what every form has in common, and the image of a header and rows. Assumes nothing.
-use Rattle.numbers.specs.Library.{ℕ, ◌+◌, ◌/◌, ◌%◌, List, [], ◌++◌, ◌∷◌, length}
+use Rattle.std.specs.Prelude.{◌+◌, ◌/◌, ◌%◌, ◌++◌, ◌∷◌}
+use Rattle.numbers.specs.Library.{ℕ, List, [], length}
 use Rattle.rows.specs.Prelude.{items, shelves}
 use Rattle.rows.specs.declared.{header.Header.Header, shelf.ShelfRow.ShelfRow, item.ItemRow.ItemRow}
 use Rattle.image_form.specs.Bytes.{bytes_of, total}

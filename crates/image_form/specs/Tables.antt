@@ -1,5 +1,6 @@
 -- The first rows of a table, taken out and stored. Assumes nothing.
-use Rattle.numbers.specs.Library.{ℕ, zero, suc, List, [], ◌++◌, ◌∷◌}
+use Rattle.std.specs.Prelude.{◌++◌, ◌∷◌}
+use Rattle.numbers.specs.Library.{ℕ, zero, suc, List, []}
 use Rattle.rows.specs.Prelude.{Shape, get, put}
 
 module _ {A : Type 0} (s : Shape A) where

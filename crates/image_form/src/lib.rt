@@ -1,1 +1,2 @@
 // What an image is, and what follows from that. No code: blocks are written and read in `words`, `blocks`, `save` and `load`.
+#![tactic(auto)]

@@ -1,5 +1,6 @@
 -- Tables of any size: where the used rows are those of tables that pass, and there is a row for each of them, the audit passes too. Assumes nothing.
-use Rattle.numbers.specs.Library.{ℕ, ◌<◌, ◌≡◌, sym, List}
+use Rattle.std.specs.Prelude.{◌<◌, ◌≡◌}
+use Rattle.numbers.specs.Library.{ℕ, sym, List}
 use Rattle.numbers.specs.Prelude.{no_row}
 use Rattle.rows.specs.Prelude.{get, items, shelves}
 use Rattle.rows.specs.declared.header.Header.{Header}

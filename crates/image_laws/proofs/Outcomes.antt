@@ -1,5 +1,6 @@
 -- Any two outcomes that save and load allow are equal: the answer, the header, every number of both tables and every byte of the output. Assumes nothing.
-use Rattle.numbers.specs.Library.{ℕ, ◌<◌, ◌≡◌, sym, ap, ◌∙◌, List, get_or, arith}
+use Rattle.std.specs.Prelude.{◌<◌, ◌≡◌}
+use Rattle.numbers.specs.Library.{ℕ, sym, ap, ◌∙◌, List, get_or, arith}
 use Rattle.rows.specs.Prelude.{items, shelves}
 use Rattle.rows.specs.declared.{header.Header.Header, shelf.ShelfRow.ShelfRow, item.ItemRow.ItemRow}
 use Rattle.rules.specs.Prelude.{Passes, Outcome, refused, gives, Judged}

@@ -1,5 +1,6 @@
 -- An image that is loaded saves to the same bytes, and an atlas that is saved loads to the same header and used rows. Assumes nothing.
-use Rattle.numbers.specs.Library.{ℕ, ◌≤◌, ◌≡◌, refl, sym, ap, ◌∙◌, Bool, true, false, List, length, take, drop, ltb, le-ltb, arith}
+use Rattle.std.specs.Prelude.{◌≤◌, ◌≡◌}
+use Rattle.numbers.specs.Library.{ℕ, refl, sym, ap, ◌∙◌, Bool, true, false, List, length, take, drop, ltb, le-ltb, arith}
 use Rattle.numbers.specs.Prelude.{pick}
 use lib.Seq.{take_at}
 use Rattle.rows.specs.Prelude.{rows, rows_long, items, shelves}
@@ -12,6 +13,7 @@ use Rattle.promises.specs.declared.answers.Reply.TheVariants as reply
 use Rattle.promises.specs.Answers.{reply_says}
 use Rattle.promises.specs.Answering.{reply_apart}
 use Rattle.image_form.specs.Bytes.{over}
+use Rattle.image_form.specs.Form1.{image_of}
 use Rattle.image_form.specs.Tables.{first_rows_of, stored_from}
 use Rattle.image_form.proofs.Tables.{length-first, same_first, first_stored, length-stored}
 use Rattle.image_promises.specs.Promises.{saving_says, saved_image, written, output_after, SavedSo, Saves, Holds, HasRows, header_after, LoadedSo, Loads, wrong, few, copied}
@@ -34,7 +36,7 @@ stored_back {h} {S} {I} {shelf_rows} {item_rows} image has fit =
     rw (← has.shelf_count) (first_stored shelves shelf_rows S (rw has.shelf_count fit.shelf_room)) in
     let i : first_rows_of items (stored_from items 0 item_rows I) h.used_items ≡ item_rows =
     rw (← has.item_count) (first_stored items item_rows I (rw has.item_count fit.item_room)) in
-    rw (s, i) (sym has.is)
+    ap (λ (l : List ShelfRow). image_of h l (first_rows_of items (stored_from items 0 item_rows I) h.used_items)) s ∙ ap (image_of h shelf_rows) i ∙ sym has.is
 
 module _ (image S I : List ℕ) (r : Replied) (S' I' : List ℕ) (done : r.answer ≡ reply.Done) where
   refused_not : {n : ℕ} → LoadedSo r (refused n) → ⊥

@@ -1,1 +1,2 @@
 // What follows from the promises of save and load. No code.
+#![tactic(auto)]

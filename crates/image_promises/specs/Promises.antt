@@ -1,6 +1,7 @@
 -- What save and load promise, for every header, every two tables, every output and every byte string of every length. `S` and `I` are the shelf and the
 -- item table before the call, `S'` and `I'` after it, `r` is what it returns. Assumes nothing.
-use Rattle.numbers.specs.Library.{ℕ, ◌≤◌, ◌≡◌, List, [], ◌∷◌, length, ltb}
+use Rattle.std.specs.Prelude.{◌≤◌, ◌≡◌, ◌∷◌}
+use Rattle.numbers.specs.Library.{ℕ, List, [], length, ltb}
 use Rattle.numbers.specs.Prelude.{pick}
 use Rattle.rows.specs.Prelude.{rows, items, shelves, zero_header}
 use Rattle.rows.specs.declared.{header.Header.Header, shelf.ShelfRow.ShelfRow, item.ItemRow.ItemRow}

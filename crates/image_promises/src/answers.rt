@@ -1,5 +1,5 @@
 // To save: the length of the image. Load answers as clear does, with the header beside it.
-#[derive(Drop)]
+#[derive(Clone, Copy)]
 pub enum Saving {
     Saved(u32),
     Refused(u16),

@@ -1,5 +1,6 @@
 -- What the tests of an image say: its first block, its length, and the blocks of the rows. Assumes nothing.
-use Rattle.numbers.specs.Library.{ℕ, ◌+◌, ◌-◌, ◌*◌, ◌≤◌, ◌<◌, ◌≡◌, ap, ◌∙◌, Bool, false, List, length, length-drop, length-take-le, take, drop, arith}
+use Rattle.std.specs.Prelude.{◌+◌, ◌-◌, ◌*◌, ◌≤◌, ◌<◌, ◌≡◌}
+use Rattle.numbers.specs.Library.{ℕ, ap, ◌∙◌, Bool, false, List, length, length-drop, length-take-le, take, drop, arith}
 use Rattle.numbers.specs.Prelude.{Decides, refuted}
 use Rattle.rows.specs.declared.header.Header.{Header}
 use Rattle.image_form.specs.Form1.{shelf_rows_of, item_rows_of}

@@ -1,5 +1,6 @@
 -- An image is right exactly when it is the image of a header and rows; and then the header and the rows are those that stand in it. Assumes nothing.
-use Rattle.numbers.specs.Library.{ℕ, suc, ◌+◌, ◌-◌, ◌*◌, ◌/◌, ◌%◌, ◌<◌, ◌≡◌, refl, sym, ap, ◌∙◌, List, ◌∷◌, ◌++◌, length, length-append, length-drop, length-take-le, get_or, take, drop}
+use Rattle.std.specs.Prelude.{◌+◌, ◌-◌, ◌*◌, ◌/◌, ◌%◌, ◌<◌, ◌≡◌, ◌∷◌, ◌++◌}
+use Rattle.numbers.specs.Library.{ℕ, suc, refl, sym, ap, ◌∙◌, List, length, length-append, length-drop, length-take-le, get_or, take, drop}
 use Rattle.numbers.specs.Library.{arith, append_assoc, dec_lt, drop-cons, take_all}
 use lib.Seq.{take_at, drop_at, drop-drop, get_or-take}
 use lib.ListN.{take-append-drop, get_or-eq_default}

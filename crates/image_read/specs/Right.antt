@@ -1,5 +1,6 @@
 -- What load asks of an image, test by test. That this says whether it is the image of a header and rows is proved (proofs/Standing). Assumes nothing.
-use Rattle.numbers.specs.Library.{ℕ, ◌+◌, ◌-◌, ◌*◌, ◌≡◌, List, length, get_or, take, drop}
+use Rattle.std.specs.Prelude.{◌+◌, ◌-◌, ◌*◌, ◌≡◌}
+use Rattle.numbers.specs.Library.{ℕ, List, length, get_or, take, drop}
 use Rattle.rows.specs.declared.header.Header.{Header}
 use Rattle.image_form.specs.Bytes.{words_of}
 use Rattle.image_form.specs.Blocks.{up_to}

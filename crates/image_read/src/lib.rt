@@ -1,4 +1,6 @@
 // An image of form 1 that is met: whether every block and the length are exactly so, the header that stands in it, and its rows, copied to lent tables.
+#![tactic(auto)]
+
 ghost use Rattle.std.specs.Prelude.{◌≡◌, length};
 ghost use Rattle.numbers.specs.Prelude.{Decides};
 ghost use Rattle.image_form.specs.Bytes.{words_of, over};
@@ -90,7 +92,7 @@ pub fn image_right(image: &[u8]) -> bool
 pub fn copy_rows(image: &[u8], h: Header, z: Sizes, shelves: &mut [u16], items: &mut [u16])
     requires { SizesOf h z × (z.end ≡ length image.now) × HasRows h shelves.old items.old }
     ensures shelves_after { shelves.new ≡ over (shelf_numbers image.now h z) shelves.old }
-    ensures after { items.new ≡ over (item_numbers image.now h z) items.old }
+    ensures items_after { items.new ≡ over (item_numbers image.now h z) items.old }
 {
     let from = z.items_from;
     let end = z.end;

@@ -1,11 +1,14 @@
 // Loads images, sound and damaged, and saves again what was loaded: a line for each, with its answer and a sum over each table. The images are the records
 // of standard input, and make.py says what they are.
-ghost use Rattle.std.specs.Prelude.{◌≤◌};
+#![tactic(auto)]
+
+ghost use Rattle.std.specs.Prelude.{◌≤◌, length, IfOk};
 
 use image_promises::answers::Saving;
-use libc::{STDIN_FILENO, STDOUT_FILENO};
 use promises::answers::Reply;
 use rows::header::Header;
+use std::io;
+use std::io::Read;
 
 const LONGEST: usize = 8192;
 
@@ -14,12 +17,27 @@ const SHELVES: usize = 512;
 
 const ITEMS: usize = 576;
 
-fn say(text: &[u8]) {
-    io::write_all(STDOUT_FILENO, text);
+fn say(rt: &impl Print, text: &str) -> io::Result<()> {
+    rt.print(text)
 }
 
-fn say_number(n: u64) {
-    io::print_decimal(STDOUT_FILENO, n);
+fn say_number(rt: &impl Print, n: u64) -> io::Result<()> {
+    rt.print(n)
+}
+
+// Reads until the bytes are full or the input ends, and tells how many were read.
+fn read_full(input: &mut impl Read, bytes: &mut [u8]) -> io::Result<usize>
+    ensures { IfOk result (λ n. n ≤ length bytes.new) }
+{
+    let mut done: usize = 0;
+    while done < bytes.len() {
+        let n = input.read(&mut bytes[done..])?;
+        if n == 0 {
+            break;
+        }
+        done += n;
+    }
+    Ok(done)
 }
 
 fn wide(x: u16) -> u64
@@ -52,46 +70,50 @@ fn is_same(a: &[u8], b: &[u8]) -> bool {
     true
 }
 
-fn say_saved(n: u32, out: &[u8], image: &[u8]) {
+fn say_saved(rt: &impl Print, n: u32, out: &[u8], image: &[u8]) -> io::Result<()> {
     let end = n as usize;
     if end > out.len() {
-        say(b" too long");
-        return;
+        return say(rt, " too long");
     }
     if is_same(&out[0..end], image) {
-        say(b" same");
-        return;
+        return say(rt, " same");
     }
-    say(b" other");
+    say(rt, " other")
 }
 
-fn save_again(h: Header, shelves: &[u16], items: &[u16], image: &[u8]) {
+fn save_again(
+    rt: &impl Print,
+    h: Header,
+    shelves: &[u16],
+    items: &[u16],
+    image: &[u8],
+) -> io::Result<()> {
     let mut out = [0u8; LONGEST];
     match save::save(h, shelves, items, &mut out) {
-        Saving::Saved(n) => say_saved(n, &out, image),
-        Saving::Refused(n) => say_number(n as u64),
+        Saving::Saved(n) => say_saved(rt, n, &out, image),
+        Saving::Refused(n) => say_number(rt, n as u64),
     }
 }
 
-fn tell(answer: u16, shelves: &[u16], items: &[u16]) {
-    say_number(answer as u64);
-    say(b" ");
-    say_number(table_sum(shelves));
-    say(b" ");
-    say_number(table_sum(items));
+fn tell(rt: &impl Print, answer: u16, shelves: &[u16], items: &[u16]) -> io::Result<()> {
+    say_number(rt, answer as u64)?;
+    say(rt, " ")?;
+    say_number(rt, table_sum(shelves))?;
+    say(rt, " ")?;
+    say_number(rt, table_sum(items))
 }
 
-fn run(image: &[u8], shelves: &mut [u16], items: &mut [u16]) {
+fn run(rt: &impl Print, image: &[u8], shelves: &mut [u16], items: &mut [u16]) -> io::Result<()> {
     let r = load::load(image, shelves, items);
     let answer = r.answer;
     match answer {
         Reply::Done => {
-            tell(0, shelves, items);
-            save_again(r.header, shelves, items, image);
+            tell(rt, 0, shelves, items)?;
+            save_again(rt, r.header, shelves, items, image)?;
         }
-        Reply::Refused(n) => tell(n, shelves, items),
+        Reply::Refused(n) => tell(rt, n, shelves, items)?,
     }
-    say(b"\n");
+    say(rt, "\n")
 }
 
 fn at_most(n: usize, most: usize) -> usize
@@ -103,38 +125,45 @@ fn at_most(n: usize, most: usize) -> usize
     most
 }
 
-fn run_in(image: &[u8], shelf_rows: u16, item_rows: u16) {
+fn run_in(rt: &impl Print, image: &[u8], shelf_rows: u16, item_rows: u16) -> io::Result<()> {
     let mut shelves = [7u16; SHELVES];
     let mut items = [7u16; ITEMS];
     let s = at_most(shelf_rows as usize * rows::shelf::NUMBERS, SHELVES);
     let i = at_most(item_rows as usize * rows::item::NUMBERS, ITEMS);
-    run(image, &mut shelves[0..s], &mut items[0..i]);
+    run(rt, image, &mut shelves[0..s], &mut items[0..i])
 }
 
 // One record, where there is one.
-fn turn(image: &mut [u8]) -> bool {
+fn turn(rt: &impl Print, input: &mut impl Read, image: &mut [u8]) -> io::Result<bool> {
     let mut sizes = [0u8; 6];
-    if io::read_full(STDIN_FILENO, &mut sizes) < 6 {
-        return false;
+    if read_full(input, &mut sizes)? < 6 {
+        return Ok(false);
     }
     let n = at_most(words::word(&sizes, 0) as usize, image.len());
-    if io::read_full(STDIN_FILENO, &mut image[0..n]) < n {
-        return false;
+    if read_full(input, &mut image[0..n])? < n {
+        return Ok(false);
     }
-    run_in(&image[0..n], words::word(&sizes, 1), words::word(&sizes, 2));
-    true
+    run_in(
+        rt,
+        &image[0..n],
+        words::word(&sizes, 1),
+        words::word(&sizes, 2),
+    )?;
+    Ok(true)
 }
 
-fn all_turns(image: &mut [u8]) {
+fn all_turns(rt: &impl Print, input: &mut impl Read, image: &mut [u8]) -> io::Result<()> {
     let mut turns: u32 = 100000;
     let mut more = true;
     while turns > 0 && more {
-        more = turn(image);
+        more = turn(rt, input, image)?;
         turns -= 1;
     }
+    Ok(())
 }
 
-fn main() {
+fn main(rt: HostRuntime) -> io::Result<()> {
+    let mut input = rt.reader();
     let mut image = [0u8; LONGEST];
-    all_turns(&mut image);
+    all_turns(&rt, &mut input, &mut image)
 }

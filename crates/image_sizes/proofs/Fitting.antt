@@ -1,5 +1,6 @@
 -- The used rows of both tables fit the blocks that they take. Assumes nothing.
-use Rattle.numbers.specs.Library.{ℕ, ◌+◌, ◌≤◌, arith}
+use Rattle.std.specs.Prelude.{◌+◌, ◌≤◌}
+use Rattle.numbers.specs.Library.{ℕ, arith}
 use Rattle.rows.specs.Prelude.{items, shelves}
 use Rattle.rows.specs.declared.header.Header.{Header}
 use Rattle.image_form.specs.Blocks.{block_count}

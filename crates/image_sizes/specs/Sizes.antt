@@ -1,5 +1,5 @@
 -- How large the image of an atlas is: by its used rows alone. Assumes nothing.
-use Rattle.numbers.specs.Library.{◌+◌, ◌*◌, ◌<◌, ◌≡◌}
+use Rattle.std.specs.Prelude.{◌+◌, ◌*◌, ◌<◌, ◌≡◌}
 use Rattle.rows.specs.declared.header.Header.{Header}
 use Rattle.image_form.specs.Blocks.{block_count}
 use Rattle.image_sizes.specs.declared.Sizes.{Sizes}

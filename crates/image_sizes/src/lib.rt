@@ -1,4 +1,6 @@
 // What saved form 1 says in numbers: the layouts of its two kinds of rows, and how many blocks an atlas takes.
+#![tactic(auto)]
+
 ghost use Rattle.std.specs.Prelude.{◌≡◌};
 ghost use Rattle.image_form.specs.Form1.{shelf_rows_of, item_rows_of};
 ghost use Rattle.row_blocks.specs.Layout.{layout_of};
@@ -33,7 +35,7 @@ pub fn item_layout() -> Layout
 }
 
 // The blocks of each kind, where in the image those of the items start, and where it ends.
-#[derive(Drop)]
+#[derive(Clone, Copy)]
 pub struct Sizes {
     pub shelf_blocks: usize,
     pub item_blocks: usize,

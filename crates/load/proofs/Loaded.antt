@@ -1,5 +1,6 @@
 -- The promise of load from what the code has seen. Assumes nothing.
-use Rattle.numbers.specs.Library.{ℕ, ◌≤◌, ◌<◌, ◌≡◌, refl, sym, ap, ◌∙◌, Bool, true, not, List, length, get_or}
+use Rattle.std.specs.Prelude.{◌≤◌, ◌<◌, ◌≡◌}
+use Rattle.numbers.specs.Library.{ℕ, refl, sym, ap, ◌∙◌, Bool, true, not, List, length, get_or}
 use Rattle.numbers.specs.Prelude.{Decides, denied}
 use Rattle.rows.specs.Prelude.{rows, items, shelves}
 use Rattle.rows.specs.declared.header.Header.{Header}

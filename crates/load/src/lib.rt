@@ -1,4 +1,6 @@
 // Load: an image of form 1 read into lent tables. Nothing is written before every block is judged and the rows are known to fit.
+#![tactic(auto)]
+
 ghost use Rattle.numbers.specs.Prelude.{Decides};
 ghost use Rattle.image_promises.specs.Promises.{HasRows, LoadedSo, Loads};
 ghost use Rattle.rules.specs.Prelude.{Passes, refused, gives, Judged};

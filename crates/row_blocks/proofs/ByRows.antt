@@ -1,5 +1,6 @@
 -- The blocks of a kind, by rows and by numbers alone: what code writes, judges and copies is what the form says of the rows. Assumes nothing.
-use Rattle.numbers.specs.Library.{ℕ, zero, suc, ◌+◌, ◌-◌, ◌*◌, ◌≤◌, ◌<◌, min, ◌≡◌, refl, sym, ap, ◌∙◌, List, length, take, drop, arith, suc-mul}
+use Rattle.std.specs.Prelude.{◌+◌, ◌-◌, ◌*◌, ◌≤◌, ◌<◌, ◌≡◌}
+use Rattle.numbers.specs.Library.{ℕ, zero, suc, min, refl, sym, ap, ◌∙◌, List, length, take, drop, arith, suc-mul}
 use Rattle.numbers.specs.Library.{length-take, length-drop, take_all, dec_lt}
 use lib.Seq.{take-add}
 use native.Mathlib.Nat.{mul_assoc, min-eq_left, min-eq_right}

@@ -1,5 +1,6 @@
 -- Where block b of a kind stands, in the image and in the table, and what one more block adds. Assumes nothing.
-use Rattle.numbers.specs.Library.{ℕ, zero, suc, ◌+◌, ◌-◌, ◌*◌, ◌/◌, ◌≤◌, ◌<◌, ◌≡◌, refl, sym, ap, ◌∙◌, Bool, true, List, ◌++◌, length, take, drop, arith, suc-mul, add-mul}
+use Rattle.std.specs.Prelude.{◌+◌, ◌-◌, ◌*◌, ◌/◌, ◌≤◌, ◌<◌, ◌≡◌, ◌++◌}
+use Rattle.numbers.specs.Library.{ℕ, zero, suc, refl, sym, ap, ◌∙◌, Bool, true, List, length, take, drop, arith, suc-mul, add-mul}
 use Rattle.numbers.specs.Library.{add-one, mul-le-mul_right, div-mul-le_self, length-append, length-take, length-drop, length-take-le, dec_lt}
 use lib.Seq.{drop-drop}
 use native.Mathlib.Nat.{mul_assoc, add-sub_cancel_left, min-le_left, min-le_right, min-eq_left, min-eq_right, le_of_mul-le-mul_right, lt_of_mul-lt-mul_right, lt-div-mul-add}

@@ -1,6 +1,7 @@
 -- The rows of a table as the blocks of a kind, in numbers alone, as code writes and reads them: which numbers of the table stand in which block.
 -- Assumes nothing.
-use Rattle.numbers.specs.Library.{ℕ, ◌+◌, ◌-◌, ◌*◌, ◌≤◌, ◌<◌, min, ◌≡◌, List, ◌++◌, length, take, drop}
+use Rattle.std.specs.Prelude.{◌+◌, ◌-◌, ◌*◌, ◌≤◌, ◌<◌, ◌≡◌, ◌++◌}
+use Rattle.numbers.specs.Library.{ℕ, min, List, length, take, drop}
 use Rattle.image_form.specs.Bytes.{over}
 use Rattle.image_form.specs.Blocks.{Kind, block}
 use Rattle.image_form.specs.Form1.{form1}

@@ -1,5 +1,7 @@
 // The rows of a lent table as the blocks of a kind: written, judged and copied. Where a row stands in a table is known here and in `rows`, and nowhere
 // above.
+#![tactic(auto)]
+
 ghost use Rattle.std.specs.Prelude.{◌≡◌, ◌+◌, ◌*◌, ◌≤◌, length};
 ghost use Rattle.numbers.specs.Prelude.{Decides};
 ghost use Rattle.image_form.specs.Bytes.{bytes_of, words_of, over};
@@ -9,7 +11,7 @@ ghost use Rattle.row_blocks.specs.Layout.{Laid, Rows, There, table_block, over_f
 use blocks::block;
 
 // A kind of blocks that hold rows: its number, how many rows a block has at most, and how many numbers a row has.
-#[derive(Drop)]
+#[derive(Clone, Copy)]
 pub struct Layout {
     pub kind: u16,
     pub most: usize,

@@ -1,6 +1,7 @@
 -- The image of an atlas by its three parts, as they are written: the header block, the shelf rows' blocks, the item rows'. And the promise of save from what
 -- the code has seen. Assumes nothing.
-use Rattle.numbers.specs.Library.{ℕ, ◌+◌, ◌-◌, ◌*◌, ◌≤◌, ◌<◌, ◌≡◌, refl, sym, ap, ◌∙◌, Bool, true, false, not, List, ◌++◌, length, length-append, length-drop, length-take-le, take, drop, arith}
+use Rattle.std.specs.Prelude.{◌+◌, ◌-◌, ◌*◌, ◌≤◌, ◌<◌, ◌≡◌, ◌++◌}
+use Rattle.numbers.specs.Library.{ℕ, refl, sym, ap, ◌∙◌, Bool, true, false, not, List, length, length-append, length-drop, length-take-le, take, drop, arith}
 use Rattle.numbers.specs.Library.{ltb, lt-ltb, le-ltb}
 use Rattle.numbers.specs.Prelude.{Decides, denied}
 use Rattle.rows.specs.Prelude.{rows, items, shelves}

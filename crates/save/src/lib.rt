@@ -1,4 +1,6 @@
 // Save: an atlas as an image of form 1, in a lent output.
+#![tactic(auto)]
+
 ghost use Rattle.std.specs.Prelude.{◌≡◌, ◌≤◌, length};
 ghost use Rattle.rules.specs.Prelude.{Passes};
 ghost use Rattle.image_form.specs.Bytes.{bytes_of, over};

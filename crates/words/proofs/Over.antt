@@ -1,6 +1,7 @@
 -- A list written over element by element: the first i elements are the new ones, the rest the old. And words that are summed, or or-ed, one by one.
 -- Assumes nothing.
-use Rattle.numbers.specs.Library.{ℕ, zero, suc, ◌+◌, ◌*◌, ◌/◌, ◌%◌, ◌<◌, ◌≤◌, ◌≡◌, refl, sym, ap, ◌∙◌, List, [], ◌++◌, ◌∷◌, append_assoc, append-nil, length, get_or, set, take, drop}
+use Rattle.std.specs.Prelude.{◌+◌, ◌*◌, ◌/◌, ◌%◌, ◌<◌, ◌≤◌, ◌≡◌, ◌++◌, ◌∷◌}
+use Rattle.numbers.specs.Library.{ℕ, zero, suc, refl, sym, ap, ◌∙◌, List, [], append_assoc, append-nil, length, get_or, set, take, drop}
 use Rattle.numbers.specs.Library.{arith, add-one, drop-cons, take-suc, take_all, length-take-le, length-set, eqb, eqb-true, eq-eqb}
 use lib.Bits.{bit_or, and_le_l, and_le_r, or_add_and}
 use lib.ListN.{drop_of_length-le}
