@@ -1,6 +1,7 @@
 -- What a turn of the program does: some bytes are fed. That they are the bytes of standard input no contract can say, as none speaks of what is
 -- read; `turn` feeds what a read gave, in the order of the reads, and a newline after the last. Assumes nothing.
-use Rattle.numbers.specs.Library.{ℕ, ◌+◌, ◌-◌, ◌≤◌, ◌<◌, ◌≡◌, refl, sym, ap, subst, ◌∙◌, List, [], ◌++◌, append_assoc, append-nil, length, take, drop}
+use Rattle.std.specs.Prelude.{◌+◌, ◌-◌, ◌≤◌, ◌<◌, ◌≡◌, ◌++◌}
+use Rattle.numbers.specs.Library.{ℕ, refl, sym, ap, subst, ◌∙◌, List, [], append_assoc, append-nil, length, take, drop}
 use Rattle.numbers.specs.Library.{length-take, length-drop, length-append, take_all, arith}
 use Rattle.std.proofs.Common.{take-add, take_at}
 use Rattle.rows.specs.Prelude.{rows, rows_are, items, zero_header}

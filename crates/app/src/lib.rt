@@ -1,13 +1,15 @@
 // The script program: reads standard input to its end, and answers each line. It holds one line, one read and the answers not yet written.
 // What is done with the bytes that were read is proved in `feed`. What is read and what is written no contract can say; here each read goes through
 // `feed` as it came, and the text of its answers is written. Where one of the two fails, a sentence on standard error says so, and the program ends.
+#![tactic(auto)]
+
 ghost use Rattle.std.specs.Prelude.{◌≡◌, ◌≤◌, length, take};
 ghost use Rattle.app.specs.Reads.{Answered, Reads, Obeys};
 
 use feed::feed;
-use libc::{STDERR_FILENO, STDIN_FILENO, STDOUT_FILENO};
 use rows::header::Header;
 use rows::{header, item, shelf};
+use std::io::Read;
 
 // The two tables: 512 rows for shelves and 2048 for items.
 const SHELVES: usize = 512 * shelf::NUMBERS;
@@ -17,28 +19,34 @@ const ITEMS: usize = 2048 * item::NUMBERS;
 const FULL: usize = 51161;
 
 // What is kept from read to read: the header, the bytes kept of the line, and whether to read on.
-#[derive(Drop)]
+#[derive(Clone, Copy)]
 struct Turned {
     header: Header,
     have: usize,
     more: bool,
 }
 
+// A sentence on standard error, where one can be written.
+fn complain(rt: HostRuntime, sentence: &[u8]) {
+    let _ = rt.stderr().write_all(sentence);
+}
+
 // Writes a text of answers, unless that has failed before.
-fn hand_on(to: i32, well: bool, text: &[u8]) -> bool {
+fn hand_on<W: Print>(rt: HostRuntime, to: &W, well: bool, text: &[u8]) -> bool {
     if !well {
         return false;
     }
-    if io::write_all(to, text) {
+    if to.write_all(text).is_ok() {
         return true;
     }
-    io::write_all(STDERR_FILENO, b"script: standard output can't be written\n");
+    complain(rt, b"script: standard output can't be written\n");
     false
 }
 
 // Answers the lines that end in `piece`, and writes the answers. It takes all of the piece, also where writing fails.
-fn reply(
-    to: i32,
+fn reply<W: Print>(
+    rt: HostRuntime,
+    to: &W,
     header0: Header,
     shelves: &mut [u16],
     items: &mut [u16],
@@ -75,17 +83,18 @@ fn reply(
         taken += f.taken;
         filled = f.filled;
         if filled > FULL {
-            well = hand_on(to, well, &out[0..filled]);
+            well = hand_on(rt, to, well, &out[0..filled]);
             filled = 0;
         }
     }
-    let more = hand_on(to, well, &out[0..filled]);
+    let more = hand_on(rt, to, well, &out[0..filled]);
     Turned { header, have, more }
 }
 
 // The end of the input: a last line without a newline is a line if it has a byte.
-fn finish(
-    to: i32,
+fn finish<W: Print>(
+    rt: HostRuntime,
+    to: &W,
     header: Header,
     shelves: &mut [u16],
     items: &mut [u16],
@@ -105,7 +114,7 @@ fn finish(
             more: false,
         };
     }
-    let t = reply(to, header, shelves, items, line, have, b"\n");
+    let t = reply(rt, to, header, shelves, items, line, have, b"\n");
     let h = t.header;
     Turned {
         header: h,
@@ -115,8 +124,9 @@ fn finish(
 }
 
 // Reads once, and answers what came.
-fn turn(
-    to: i32,
+fn turn<W: Print>(
+    rt: HostRuntime,
+    to: &W,
     header: Header,
     shelves: &mut [u16],
     items: &mut [u16],
@@ -130,24 +140,23 @@ fn turn(
     ensures reads { Reads (take have line.old) (record { header = header; shelves = shelves.old; items = items.old }) (record { header = result.header; shelves = shelves.new; items = items.new }) (take result.have line.new) }
 {
     let mut buf = [0u8; 65536];
-    let got = libc::read(STDIN_FILENO, &mut buf);
-    if got < 0 {
-        io::write_all(STDERR_FILENO, b"script: standard input can't be read\n");
+    let got = rt.stdin().read(&mut buf);
+    let Ok(n) = got else {
+        complain(rt, b"script: standard input can't be read\n");
         return Turned {
             header,
             have,
             more: false,
         };
+    };
+    if n == 0 {
+        return finish(rt, to, header, shelves, items, line, have);
     }
-    if got == 0 {
-        return finish(to, header, shelves, items, line, have);
-    }
-    let n = io::count(got, &buf);
-    reply(to, header, shelves, items, line, have, &buf[0..n])
+    reply(rt, to, header, shelves, items, line, have, &buf[0..n])
 }
 
 // Reads standard input to its end and obeys its lines, from no atlas on; the answers go to `to`. What it returns is the header of the last atlas, which lies in the tables.
-pub fn obey(to: i32, shelves: &mut [u16], items: &mut [u16]) -> Header
+pub fn obey<W: Print>(rt: HostRuntime, to: &W, shelves: &mut [u16], items: &mut [u16]) -> Header
     requires { length items.old ≡ 18432 }
     ensures { Obeys shelves.old items.old result shelves.new items.new }
 {
@@ -158,7 +167,7 @@ pub fn obey(to: i32, shelves: &mut [u16], items: &mut [u16]) -> Header
     let mut more = true;
     while turns > 0 && more {
         turns -= 1;
-        let t = turn(to, header, shelves, items, &mut line, have);
+        let t = turn(rt, to, header, shelves, items, &mut line, have);
         let h = t.header;
         header = h;
         have = t.have;
@@ -168,8 +177,8 @@ pub fn obey(to: i32, shelves: &mut [u16], items: &mut [u16]) -> Header
 }
 
 // The whole program.
-pub fn run() {
+pub fn run(rt: HostRuntime) {
     let mut shelves = [0u16; SHELVES];
     let mut items = [0u16; ITEMS];
-    obey(STDOUT_FILENO, &mut shelves, &mut items);
+    obey(rt, &rt.stdout(), &mut shelves, &mut items);
 }

@@ -1,5 +1,6 @@
 -- The longest answer: a list of all the rows of the item table, and the line that ends it. Assumes nothing.
-use Rattle.numbers.specs.Library.{ℕ, ◌+◌, ◌≤◌, arith, Bool, true, false, ◌≡◌, refl, ap, List, [], ◌∷◌, ltb, length}
+use Rattle.std.specs.Prelude.{◌+◌, ◌≤◌, ◌≡◌, ◌∷◌}
+use Rattle.numbers.specs.Library.{ℕ, arith, Bool, true, false, refl, ap, List, [], ltb, length}
 use Rattle.numbers.specs.Prelude.{pick}
 use Rattle.rows.specs.Prelude.{rows, items}
 use Rattle.rows.specs.declared.{header.Header.Header, live.Live.Live}

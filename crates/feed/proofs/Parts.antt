@@ -1,5 +1,6 @@
 -- What was taken of a piece is fed: it ends no line, or one, which is answered. Assumes nothing.
-use Rattle.numbers.specs.Library.{ℕ, true, false, ◌≡◌, sym, ap, subst, ◌∙◌, List, [], ◌∷◌, append-nil, take}
+use Rattle.std.specs.Prelude.{◌≡◌, ◌∷◌}
+use Rattle.numbers.specs.Library.{ℕ, true, false, sym, ap, subst, ◌∙◌, List, [], append-nil, take}
 use Rattle.numbers.specs.Prelude.{pick}
 use Rattle.lines.specs.Line.{command_of}
 use Rattle.lines.specs.declared.command.Command.{Command}

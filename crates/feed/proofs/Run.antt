@@ -1,7 +1,8 @@
 -- The program is a run of the rules. The header and the tables hold an atlas or none; a command is one step from there, its text is that of the step's
 -- outcome, and what it leaves holds the atlas that stands after the step. So the answers of an input's lines, from the all-zero header on, are
 -- the answers of the run of their calls. Assumes nothing.
-use Rattle.numbers.specs.Library.{ℕ, ◌≡◌, refl, ap, ◌∙◌, List, [], ◌∷◌, ◌++◌, map, Option, none, length}
+use Rattle.std.specs.Prelude.{◌≡◌, ◌∷◌, ◌++◌}
+use Rattle.numbers.specs.Library.{ℕ, refl, ap, ◌∙◌, List, [], map, Option, none, length}
 use Rattle.rows.specs.Prelude.{rows_are, items, shelves, zero_header}
 use Rattle.rules.specs.Prelude.{Atlas, Room, room_in, Outcome, Call, Value, told_of, step, atlas_after, run}
 use Rattle.promises.proofs.Steps.{HoldsAtlas, StepsFrom, one_step}

@@ -1,5 +1,6 @@
 -- A run of lines: each is answered in the state that the one before it left, and the texts of the answers follow one another. Assumes nothing.
-use Rattle.numbers.specs.Library.{ℕ, sym, subst, List, [], ◌∷◌, ◌++◌, append_assoc}
+use Rattle.std.specs.Prelude.{◌∷◌, ◌++◌}
+use Rattle.numbers.specs.Library.{ℕ, sym, subst, List, [], append_assoc}
 use Rattle.rows.specs.declared.header.Header.{Header}
 use Rattle.lines.specs.declared.command.Command.{Command}
 use Rattle.script_rules.specs.Step.{Doing}

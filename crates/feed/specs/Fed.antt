@@ -1,5 +1,6 @@
 -- What `feed` promises: a first part of the piece is fed, and the text of its answer is put into the output. Assumes nothing.
-use Rattle.numbers.specs.Library.{ℕ, ◌≤◌, ◌<◌, List, length, take}
+use Rattle.std.specs.Prelude.{◌≤◌, ◌<◌}
+use Rattle.numbers.specs.Library.{ℕ, List, length, take}
 use Rattle.rows.specs.Prelude.{rows, items}
 use Rattle.texts.specs.Put.{Puts}
 use Rattle.feed.specs.Answers.{State}

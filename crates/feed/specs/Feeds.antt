@@ -1,6 +1,7 @@
 -- Pieces of the input are fed to the program one after another: the lines that end in a piece are answered, and of the next line as much is kept
 -- as is needed. However the input is cut into pieces, its lines are answered. Assumes nothing.
-use Rattle.numbers.specs.Library.{ℕ, arith, ◌≡◌, refl, sym, ap, subst, ◌∙◌, List, [], ◌∷◌, ◌++◌, map, append-nil}
+use Rattle.std.specs.Prelude.{◌≡◌, ◌∷◌, ◌++◌}
+use Rattle.numbers.specs.Library.{ℕ, arith, refl, sym, ap, subst, ◌∙◌, List, [], map, append-nil}
 use Rattle.std.proofs.lemmas.List.{map-append}
 use Rattle.lines.specs.Line.{command_of}
 use Rattle.lines.specs.declared.command.Command.{Command}

@@ -1,4 +1,6 @@
 // Answers the lines of the input as they come, piece by piece. Nothing is read or written here: the answers go into a lent buffer.
+#![tactic(auto)]
+
 ghost use Rattle.std.specs.Prelude.{◌≡◌, ◌≤◌, length, take};
 ghost use Rattle.feed.specs.Fed.{FeedsPart};
 
@@ -6,7 +8,7 @@ use input::take_line;
 use rows::header::Header;
 
 // After the bytes taken of a piece: the header, the bytes kept of the line, how many were taken, and where the answers end.
-#[derive(Drop)]
+#[derive(Clone, Copy)]
 pub struct Fed {
     pub header: Header,
     pub have: usize,

@@ -1,6 +1,7 @@
 // Saves the atlas that a script on standard input leaves: its lines are obeyed, their answers go to standard error, and the image to standard output.
+#![tactic(auto)]
+
 use image_promises::answers::Saving;
-use libc::{STDERR_FILENO, STDOUT_FILENO};
 use rows::header::Header;
 use rows::{item, shelf};
 
@@ -12,28 +13,26 @@ const ITEMS: usize = 2048 * item::NUMBERS;
 const IMAGE: usize = 92 * 512;
 
 // The image, or on standard error the number of the refusal: 3 where no line made an atlas.
-fn write_saved(h: Header, shelves: &[u16], items: &[u16]) {
+fn write_saved(rt: HostRuntime, h: Header, shelves: &[u16], items: &[u16]) {
     let mut out = [0u8; IMAGE];
     match save::save(h, shelves, items, &mut out) {
         Saving::Saved(n) => {
             let end = n as usize;
             if end <= IMAGE {
-                if !io::write_all(STDOUT_FILENO, &out[0..end]) {
-                    io::write_all(STDERR_FILENO, b"image: standard output can't be written\n");
+                if rt.write_all(&out[0..end]).is_err() {
+                    let _ = rt.eprintln("image: standard output can't be written");
                 }
             }
         }
         Saving::Refused(n) => {
-            io::write_all(STDERR_FILENO, b"image: no ");
-            io::print_decimal(STDERR_FILENO, n as u64);
-            io::write_all(STDERR_FILENO, b"\n");
+            let _ = eprintln!(rt; "image: no {n}");
         }
     }
 }
 
-fn main() {
+fn main(rt: HostRuntime) {
     let mut shelves = [0u16; SHELVES];
     let mut items = [0u16; ITEMS];
-    let h = app::obey(STDERR_FILENO, &mut shelves, &mut items);
-    write_saved(h, &shelves, &items);
+    let h = app::obey(rt, &rt.stderr(), &mut shelves, &mut items);
+    write_saved(rt, h, &shelves, &items);
 }

@@ -1,5 +1,6 @@
 -- One byte more of a piece, when no line has ended in the bytes before it: `m` is what was kept. Assumes nothing.
-use Rattle.numbers.specs.Library.{ℕ, ◌+◌, ◌<◌, arith, add-one, ◌≡◌, ap, ◌∙◌, List, [], ◌∷◌, ◌++◌, length, take, get_or, set, length-take, length-append, take-suc}
+use Rattle.std.specs.Prelude.{◌+◌, ◌<◌, ◌≡◌, ◌∷◌, ◌++◌}
+use Rattle.numbers.specs.Library.{ℕ, arith, add-one, ap, ◌∙◌, List, [], length, take, get_or, set, length-take, length-append, take-suc}
 use Rattle.numbers.specs.Library.{take_all, eq-eqb, ne_eqb}
 use lib.Seq.{take-take, take-append-le, take-suc-set}
 use Rattle.input.specs.Lines.{ended, left}

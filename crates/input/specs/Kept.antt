@@ -1,6 +1,7 @@
 -- What the program keeps of a line: its first 81 bytes, one more than a command can have. Nothing more is needed, as a longer line is no command
 -- whatever its bytes are. Assumes nothing.
-use Rattle.numbers.specs.Library.{ℕ, zero, suc, ◌≤◌, arith, Bool, true, false, ◌≡◌, refl, sym, ap, ◌∙◌, List, [], ◌∷◌, ◌++◌, map, eqb, length, take}
+use Rattle.std.specs.Prelude.{◌≤◌, ◌≡◌, ◌∷◌, ◌++◌}
+use Rattle.numbers.specs.Library.{ℕ, zero, suc, arith, Bool, true, false, refl, sym, ap, ◌∙◌, List, [], map, eqb, length, take}
 use Rattle.numbers.specs.Library.{length-take, take_all}
 use Rattle.std.proofs.Math.Decide.{dec_le}
 use Rattle.std.proofs.lemmas.List.{map-append}

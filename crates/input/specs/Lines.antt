@@ -1,5 +1,6 @@
 -- The lines of an input, and the same lines where the input comes in pieces. Assumes nothing.
-use Rattle.numbers.specs.Library.{ℕ, Bool, true, false, ◌≡◌, refl, sym, ap, ◌∙◌, List, [], ◌∷◌, ◌++◌, append-nil, eqb}
+use Rattle.std.specs.Prelude.{◌≡◌, ◌∷◌, ◌++◌}
+use Rattle.numbers.specs.Library.{ℕ, Bool, true, false, refl, sym, ap, ◌∙◌, List, [], append-nil, eqb}
 use Rattle.numbers.specs.Prelude.{pick}
 use Rattle.lines.specs.Line.{on_first}
 

@@ -1,5 +1,6 @@
 -- What is taken of a piece of the input: the rest of one line, as far as the piece has it. Assumes nothing.
-use Rattle.numbers.specs.Library.{ℕ, ◌≤◌, true, false, ◌≡◌, List, [], ◌∷◌, length, take}
+use Rattle.std.specs.Prelude.{◌≤◌, ◌≡◌, ◌∷◌}
+use Rattle.numbers.specs.Library.{ℕ, true, false, List, [], length, take}
 use Rattle.numbers.specs.Prelude.{pick}
 use Rattle.input.specs.Lines.{left}
 use Rattle.input.specs.Kept.{short, ended_short}

@@ -1,4 +1,6 @@
 // Standard input as lines, which come in pieces of any length. Nothing is read or written here.
+#![tactic(auto)]
+
 ghost use Rattle.std.specs.Prelude.{◌≡◌, ◌≤◌, length, take};
 ghost use Rattle.input.specs.Takes.{Takes};
 
@@ -6,7 +8,7 @@ ghost use Rattle.input.specs.Takes.{Takes};
 const LONGEST: usize = 80;
 
 // The bytes kept in `line`, the bytes taken of the piece, and whether they end a line.
-#[derive(Drop)]
+#[derive(Clone, Copy)]
 pub struct Taken {
     pub have: usize,
     pub taken: usize,

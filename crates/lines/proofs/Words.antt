@@ -1,5 +1,6 @@
 -- The laws of words and commands that the proofs of reading a line cite. Assumes nothing.
-use Rattle.numbers.specs.Library.{ℕ, suc, ◌+◌, ◌-◌, ◌≤◌, ◌<◌, arith, add-one, ◌≡◌, refl, sym, ap, ◌∙◌, Bool, true, false, and-false, List, [], ◌∷◌, ◌++◌}
+use Rattle.std.specs.Prelude.{◌+◌, ◌-◌, ◌≤◌, ◌<◌, ◌≡◌, ◌∷◌, ◌++◌}
+use Rattle.numbers.specs.Library.{ℕ, suc, arith, add-one, refl, sym, ap, ◌∙◌, Bool, true, false, and-false, List, []}
 use Rattle.numbers.specs.Library.{append_assoc, append-nil, length, get_or, take, drop, length-append, drop-cons, length-take-le, take_all, eqb, ℤ, pos, w32, to_z}
 use Rattle.numbers.specs.Library.{of_z, to_z-of_z, eq-eqb, ne_eqb, le-leb, lt-leb}
 use lib.ListN.{drop_of_length-le}

@@ -1,5 +1,6 @@
 -- A row or a generation as a line gives it. Assumes nothing.
-use Rattle.numbers.specs.Library.{◌≤◌, ◌<◌, ◌≡◌, refl, sym, true, false, false≢true, arith, leb, ℤ, pos, negsuc, lt_z, ltb-true, le-leb, lt-leb}
+use Rattle.std.specs.Prelude.{◌≤◌, ◌<◌, ◌≡◌}
+use Rattle.numbers.specs.Library.{refl, sym, true, false, false≢true, arith, leb, ℤ, pos, negsuc, lt_z, ltb-true, le-leb, lt-leb}
 use Rattle.numbers.specs.Prelude.{pick, natural}
 use Rattle.lines.specs.declared.ids.Named.{Named}
 use Rattle.lines.specs.declared.ids.Named.TheVariants.{Row, Outside}

@@ -1,5 +1,6 @@
 -- What a script line says: a letter, then its numbers, with one space before each. Assumes nothing.
-use Rattle.numbers.specs.Library.{ℕ, List, [], ◌∷◌, length, get_or, eqb, ℤ, pos}
+use Rattle.std.specs.Prelude.{◌∷◌}
+use Rattle.numbers.specs.Library.{ℕ, List, [], length, get_or, eqb, ℤ, pos}
 use Rattle.numbers.specs.Prelude.{pick, one_to}
 use Rattle.numerals.specs.Numeral.{number_of}
 use Rattle.numerals.specs.declared.Number.{Number}

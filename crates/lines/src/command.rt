@@ -1,5 +1,5 @@
 // What a line asks for: a letter and as many numbers as it takes. What the numbers mean is judged later.
-#[derive(Drop)]
+#[derive(Clone, Copy)]
 pub struct CreateArgs {
     pub w: i32,
     pub h: i32,
@@ -10,7 +10,7 @@ pub struct CreateArgs {
 }
 
 // What asks only to be told something.
-#[derive(Drop)]
+#[derive(Clone, Copy)]
 pub enum Tell {
     // Row and generation.
     Look(i32, i32),
@@ -19,7 +19,7 @@ pub enum Tell {
 }
 
 // What may change the tables.
-#[derive(Drop)]
+#[derive(Clone, Copy)]
 pub enum Change {
     Create(CreateArgs),
     // Width and height.
@@ -29,7 +29,7 @@ pub enum Change {
     Clear,
 }
 
-#[derive(Drop)]
+#[derive(Clone, Copy)]
 pub enum Command {
     Bad,
     Tell(Tell),

@@ -4,7 +4,7 @@ ghost use Rattle.lines.specs.Ids.{row_of};
 
 use numbers::sides::natural_of;
 
-#[derive(Drop)]
+#[derive(Clone, Copy)]
 pub enum Named {
     Row(u16),
     Outside,

@@ -1,5 +1,6 @@
 -- A negative number of 32 bits, negated in 64. Assumes nothing.
-use Rattle.numbers.specs.Library.{zero, suc, arith, ◌≡◌, true, ℤ, pos, negsuc, neg_ℤ, lt_z, w32, w64, SFits, ltb-true}
+use Rattle.std.specs.Prelude.{◌≡◌}
+use Rattle.numbers.specs.Library.{zero, suc, arith, true, ℤ, pos, negsuc, neg_ℤ, lt_z, w32, w64, SFits, ltb-true}
 use lib.Dec.{T}
 use lib.IntN.{nat_abs, ◌-ℤ◌, +ℤ_idl}
 use lib.Signed.{non_neg}

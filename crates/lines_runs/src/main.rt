@@ -1,12 +1,15 @@
 // Reads a table of lines from standard input, and writes the command of each in a short form: its letter and its numbers, or "bad".
 // Then it writes a table of answers, each kind with small numbers and with the largest.
+#![tactic(auto)]
+
 ghost use Rattle.std.specs.Prelude.{◌≤◌, length};
 
-use libc::{STDIN_FILENO, STDOUT_FILENO};
 use lines::command::{Change, Command, CreateArgs, Tell};
 use lines::read::read_line;
 use numbers::sides::natural_of;
 use rows::live::Live;
+use std::io;
+use std::io::Read;
 use texts::answer::{Answer, put_answer};
 use texts::text::{put_byte, put_number, put_text};
 
@@ -102,12 +105,13 @@ fn put_command(out: &mut [u8], command: Command) -> usize {
     }
 }
 
-fn show(line: &[u8]) {
+fn show(rt: HostRuntime, line: &[u8]) -> io::Result<()> {
     let mut out = [0u8; 128];
     let n = put_command(&mut out, read_line(line));
     if n <= 128 {
-        io::write_all(STDOUT_FILENO, &out[0..n]);
+        rt.write_all(&out[0..n])?;
     }
+    Ok(())
 }
 
 fn line_end(text: &[u8], from: usize) -> usize
@@ -125,13 +129,14 @@ fn line_end(text: &[u8], from: usize) -> usize
     e
 }
 
-fn show_lines(text: &[u8]) {
+fn show_lines(rt: HostRuntime, text: &[u8]) -> io::Result<()> {
     let mut from: usize = 0;
     while from < text.len() {
         let end = line_end(text, from);
-        show(&text[from..end]);
+        show(rt, &text[from..end])?;
         from = end + 1;
     }
+    Ok(())
 }
 
 fn narrow(n: u32) -> u16 {
@@ -164,28 +169,29 @@ fn answer_of(numbers: [u32; 4]) -> Answer {
     }
 }
 
-fn show_answer(answer: Answer) {
+fn show_answer(rt: HostRuntime, answer: Answer) -> io::Result<()> {
     let mut out = [0u8; 64];
     let n = put_answer(&mut out, 0, answer);
     if n <= 64 {
-        io::write_all(STDOUT_FILENO, &out[0..n]);
+        rt.write_all(&out[0..n])?;
     }
+    Ok(())
 }
 
-fn show_answers() {
+fn show_answers(rt: HostRuntime) -> io::Result<()> {
     let mut i: usize = 0;
     while i < 12 {
-        show_answer(answer_of(ANSWERS[i]));
+        show_answer(rt, answer_of(ANSWERS[i]))?;
         i += 1;
     }
+    Ok(())
 }
 
-fn main() {
+fn main(rt: HostRuntime) -> io::Result<()> {
     let mut table = [0u8; 4096];
-    let got = libc::read(STDIN_FILENO, &mut table);
-    if got > 0 {
-        let n = io::count(got, &table);
-        show_lines(&table[0..n]);
+    let n = rt.stdin().read(&mut table)?;
+    if n > 0 {
+        show_lines(rt, &table[0..n])?;
     }
-    show_answers();
+    show_answers(rt)
 }

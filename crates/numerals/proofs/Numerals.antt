@@ -1,6 +1,7 @@
 -- The laws of numerals that the proofs of reading them cite. Assumes nothing.
-use Rattle.numbers.specs.Library.{ℕ, zero, suc, ◌+◌, ◌-◌, ◌*◌, ◌≤◌, ◌<◌, arith, add-one, ◌≡◌, refl, ap, ◌∙◌, Bool, true, false, ◌&&◌, and-false, false≢true}
-use Rattle.numbers.specs.Library.{List, [], ◌∷◌, length, get_or, take, drop, drop-cons, take_all, leb, eqb, ℤ, pos, neg_ℤ, w32, w64, SFits, to_z, to_z-of_z, le-leb}
+use Rattle.std.specs.Prelude.{◌+◌, ◌-◌, ◌*◌, ◌≤◌, ◌<◌, ◌≡◌, ◌&&◌, ◌∷◌}
+use Rattle.numbers.specs.Library.{ℕ, zero, suc, arith, add-one, refl, ap, ◌∙◌, Bool, true, false, and-false, false≢true}
+use Rattle.numbers.specs.Library.{List, [], length, get_or, take, drop, drop-cons, take_all, leb, eqb, ℤ, pos, neg_ℤ, w32, w64, SFits, to_z, to_z-of_z, le-leb}
 use Rattle.numbers.specs.Library.{lt-leb, leb-true}
 use lib.IntN.{◌-ℤ◌, +ℤ_idl}
 use mir.Facts.{sfits_widen, sfits_lit}

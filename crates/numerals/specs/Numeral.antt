@@ -1,5 +1,6 @@
 -- A number's decimal text, as a line has it: an optional minus, digits, no leading zero, 32 signed bits. Assumes nothing.
-use Rattle.numbers.specs.Library.{ℕ, ◌+◌, ◌-◌, ◌*◌, Bool, true, false, not, ◌&&◌, List, [], ◌∷◌, leb, eqb, ℤ, pos, neg_ℤ}
+use Rattle.std.specs.Prelude.{◌+◌, ◌-◌, ◌*◌, ◌&&◌, ◌∷◌}
+use Rattle.numbers.specs.Library.{ℕ, Bool, true, false, not, List, [], leb, eqb, ℤ, pos, neg_ℤ}
 use Rattle.std.specs.Int.Signed.{le_z}
 use Rattle.numbers.specs.Prelude.{pick}
 use Rattle.numerals.specs.declared.{Digits.Digits, Number.Number}

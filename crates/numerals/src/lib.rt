@@ -1,15 +1,17 @@
 // A number out of its decimal text: an optional minus, digits without a leading zero, and no more than 32 signed bits hold.
+#![tactic(auto)]
+
 ghost use Rattle.std.specs.Prelude.{◌≡◌, ◌≤◌, ◌<◌, length, pos, neg_ℤ};
 ghost use Rattle.numerals.specs.Numeral.{zero_first, minus_first, after_first, digits_of, number_of};
 
 // What digits are worth, up to 2147483648, the greatest that a minus can stand before.
-#[derive(Drop)]
+#[derive(Clone, Copy)]
 pub enum Digits {
     NoDigits,
     Worth(u32),
 }
 
-#[derive(Drop)]
+#[derive(Clone, Copy)]
 pub enum Number {
     NoNumber,
     Is(i32),

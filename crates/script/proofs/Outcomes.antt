@@ -1,5 +1,6 @@
 -- A line has one outcome: what is right after it determines the text, the header and every number of both tables. Assumes nothing.
-use Rattle.numbers.specs.Library.{ℕ, ◌≡◌, sym, ◌∙◌, List}
+use Rattle.std.specs.Prelude.{◌≡◌}
+use Rattle.numbers.specs.Library.{ℕ, sym, ◌∙◌, List}
 use Rattle.rows.specs.declared.header.Header.{Header}
 use Rattle.promises.proofs.Outcomes.{SameTables, one_promise}
 use Rattle.lines.specs.declared.command.Command.{Command}

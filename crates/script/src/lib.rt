@@ -1,4 +1,6 @@
 // One step of the script program: a line in, the text of its answer out, and the state after it.
+#![tactic(auto)]
+
 ghost use Rattle.lines.specs.Line.{command_of};
 ghost use Rattle.texts.specs.Answer.{text_of};
 ghost use Rattle.script_rules.specs.Answers.{change_of};

@@ -1,4 +1,6 @@
 // The commands that may change the tables: n, a, r and c, each as a call of the rules.
+#![tactic(auto)]
+
 ghost use Rattle.lines.specs.declared.command.Change.TheVariants as change;
 ghost use Rattle.rules.specs.Step as call;
 ghost use Rattle.texts.specs.Answer.{text_of};

@@ -1,4 +1,6 @@
 // The script program on generated scripts, held to the Rust's answers, and on the stored cases.
-fn main() {
-    app::run();
+#![tactic(auto)]
+
+fn main(rt: HostRuntime) {
+    app::run(rt);
 }

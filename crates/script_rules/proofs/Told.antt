@@ -1,6 +1,7 @@
 -- What is said of a call is right: the text of a public call's answer is that of the outcome it says, and a refusal changes nothing beside its text.
 -- Assumes nothing.
-use Rattle.numbers.specs.Library.{ℕ, ◌≡◌, refl, ap, ◌∙◌, Bool, true, false, not, List}
+use Rattle.std.specs.Prelude.{◌≡◌}
+use Rattle.numbers.specs.Library.{ℕ, refl, ap, ◌∙◌, Bool, true, false, not, List}
 use Rattle.numbers.specs.Prelude.{Decides}
 use Rattle.rows.specs.declared.header.Header.{Header}
 use Rattle.rules.specs.Prelude.{mapped, Outcome, Passes, Call, Value, NoSuchId, is_create, step_in, step_without, step, Leaves, header_kept, Answering, Answers, Asks, passes}

@@ -1,5 +1,6 @@
 -- The row and generation of a line, together. Assumes nothing.
-use Rattle.numbers.specs.Library.{ℕ, ◌≡◌, ap, ◌∙◌, ℤ}
+use Rattle.std.specs.Prelude.{◌≡◌}
+use Rattle.numbers.specs.Library.{ℕ, ap, ◌∙◌, ℤ}
 use Rattle.lines.specs.Ids.{row_of}
 use Rattle.lines.specs.declared.ids.Named.{Named}
 use Rattle.lines.specs.declared.ids.Named.TheVariants as named

@@ -1,5 +1,6 @@
 -- The text of a list: a line for each item, then "end" and the count. Assumes nothing.
-use Rattle.numbers.specs.Library.{ℕ, List, [], ◌∷◌, ◌++◌, length}
+use Rattle.std.specs.Prelude.{◌∷◌, ◌++◌}
+use Rattle.numbers.specs.Library.{ℕ, List, [], length}
 use Rattle.rows.specs.declared.live.Live.{Live}
 use Rattle.texts.specs.Answer.{text_of}
 use Rattle.texts.specs.declared.answer.Answer.TheVariants as answer

@@ -1,6 +1,7 @@
 -- One line of the script: it is one step of the rules, and its text is that of the outcome. `h`, `S` and `I` are the header and the two tables
 -- before it, `h'`, `S'` and `I'` after it. Assumes nothing.
-use Rattle.numbers.specs.Library.{ℕ, ◌≡◌, List}
+use Rattle.std.specs.Prelude.{◌≡◌}
+use Rattle.numbers.specs.Library.{ℕ, List}
 use Rattle.rows.specs.declared.header.Header.{Header}
 use Rattle.rules.specs.Prelude.{Outcome, Call, Value, Promise}
 use Rattle.lines.specs.declared.command.Command.{Command}

@@ -4,7 +4,7 @@ ghost use Rattle.script_rules.specs.Ids.{id_of};
 
 use lines::ids::{Named, row_of};
 
-#[derive(Drop)]
+#[derive(Clone, Copy)]
 pub enum Id {
     Of(u16, u16),
     Outside,

@@ -1,5 +1,6 @@
 -- The rows of a list, one after another. Assumes nothing.
-use Rattle.numbers.specs.Library.{ℕ, ◌+◌, ◌≤◌, ◌≡◌, refl, ◌≢◌, Bool, true, false, List, [], ◌∷◌, ◌++◌, append-nil, arith, add-one, eqb, length, eq-eqb, ne_eqb}
+use Rattle.std.specs.Prelude.{◌+◌, ◌≤◌, ◌≡◌, ◌≢◌, ◌∷◌, ◌++◌}
+use Rattle.numbers.specs.Library.{ℕ, refl, Bool, true, false, List, [], append-nil, arith, add-one, eqb, length, eq-eqb, ne_eqb}
 use Rattle.numbers.specs.Prelude.{pick}
 use Rattle.rows.specs.Prelude.{get, items, shelves}
 use Rattle.rows.specs.declared.{header.Header.Header, item.ItemRow.ItemRow, live.Live.Live}

@@ -1,5 +1,6 @@
 -- What the commands that change nothing say: a refusal, or what is told of the atlas that is met in the tables. Assumes nothing.
-use Rattle.numbers.specs.Library.{ℕ, ◌≤◌, ◌≡◌, refl, Bool, true, false, not, List, ◌++◌, length, arith, le-ltb}
+use Rattle.std.specs.Prelude.{◌≤◌, ◌≡◌, ◌++◌}
+use Rattle.numbers.specs.Library.{ℕ, refl, Bool, true, false, not, List, length, arith, le-ltb}
 use Rattle.numbers.specs.Prelude.{Decides, space_left}
 use Rattle.rows.specs.Prelude.{rows_few, items}
 use Rattle.rows.specs.declared.header.Header.{Header}

@@ -1,5 +1,6 @@
 -- The lines of some items put into the output one after another, and counted. Assumes nothing.
-use Rattle.numbers.specs.Library.{ℕ, ◌+◌, ◌≡◌, refl, sym, ap, ◌∙◌, List, [], ◌∷◌, ◌++◌, append_assoc, length, length-append, arith}
+use Rattle.std.specs.Prelude.{◌+◌, ◌≡◌, ◌∷◌, ◌++◌}
+use Rattle.numbers.specs.Library.{ℕ, refl, sym, ap, ◌∙◌, List, [], append_assoc, length, length-append, arith}
 use Rattle.rows.specs.declared.live.Live.{Live}
 use Rattle.texts.specs.Answer.{text_of}
 use Rattle.texts.specs.Lines.{PutsLines, lines_none, lines_then}

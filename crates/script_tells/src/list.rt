@@ -15,7 +15,7 @@ use script_rules::answers::say;
 use texts::answer::{Answer, put_answer};
 
 // How many items are listed, and the place after their lines.
-#[derive(Drop)]
+#[derive(Clone, Copy)]
 pub struct Lines {
     pub count: u32,
     pub at: usize,

@@ -1,6 +1,7 @@
 -- The laws of a number's digits, as they are found: the least significant first, from the end of a buffer. Assumes nothing.
-use Rattle.numbers.specs.Library.{ℕ, zero, suc, ◌+◌, ◌*◌, ◌^◌, ◌/◌, ◌%◌, ◌≤◌, ◌<◌, arith, add-one, ◌≡◌, refl, sym, ap, ◌∙◌, Bool, true, false, List, [], ◌∷◌}
-use Rattle.numbers.specs.Library.{◌++◌, append_assoc, append-nil, length, get_or, take, drop, set, length-append, take-suc, drop-cons, ltb, lt-ltb, le-ltb}
+use Rattle.std.specs.Prelude.{◌+◌, ◌*◌, ◌^◌, ◌/◌, ◌%◌, ◌≤◌, ◌<◌, ◌≡◌, ◌∷◌, ◌++◌}
+use Rattle.numbers.specs.Library.{ℕ, zero, suc, arith, add-one, refl, sym, ap, ◌∙◌, Bool, true, false, List, []}
+use Rattle.numbers.specs.Library.{append_assoc, append-nil, length, get_or, take, drop, set, length-append, take-suc, drop-cons, ltb, lt-ltb, le-ltb}
 use Rattle.numbers.specs.Library.{ltb-true, ltb-false}
 use native.Mathlib.Nat.{pow-suc}
 use lib.Seq.{get_or-set_same, drop-set-lt, lt-length-set}

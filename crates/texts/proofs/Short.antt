@@ -1,5 +1,6 @@
 -- An answer's line has at most 39 bytes, its newline counted: numbers of 16 bits have five digits at most, those of 32 bits ten. Assumes nothing.
-use Rattle.numbers.specs.Library.{ℕ, ◌+◌, ◌^◌, ◌≤◌, ◌<◌, arith, ◌≡◌, refl, List, [], ◌∷◌, ◌++◌, length, length-append}
+use Rattle.std.specs.Prelude.{◌+◌, ◌^◌, ◌≤◌, ◌<◌, ◌≡◌, ◌∷◌, ◌++◌}
+use Rattle.numbers.specs.Library.{ℕ, arith, refl, List, [], length, length-append}
 use Rattle.rows.specs.declared.live.Live.{Live}
 use Rattle.texts.specs.Text.{decimal, spaced, line}
 use Rattle.texts.specs.Answer.{live_line, text_of}

@@ -1,5 +1,6 @@
 -- The text of each answer. Assumes nothing.
-use Rattle.numbers.specs.Library.{ℕ, List, [], ◌∷◌, ◌++◌}
+use Rattle.std.specs.Prelude.{◌∷◌, ◌++◌}
+use Rattle.numbers.specs.Library.{ℕ, List, []}
 use Rattle.rows.specs.declared.live.Live.{Live}
 use Rattle.texts.specs.Text.{decimal, line}
 use Rattle.texts.specs.declared.answer.Answer.{Answer}

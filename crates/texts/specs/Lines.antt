@@ -1,5 +1,6 @@
 -- Texts of whole lines, put into a buffer: no line has more than 39 bytes, its newline counted, so the number of lines bounds a text. Assumes nothing.
-use Rattle.numbers.specs.Library.{ℕ, zero, suc, ◌+◌, ◌*◌, ◌/◌, ◌%◌, ◌≤◌, arith, Bool, true, false, ◌≡◌, refl, ap, ◌∙◌, List, [], ◌∷◌, ◌++◌, eqb, ltb, length}
+use Rattle.std.specs.Prelude.{◌+◌, ◌*◌, ◌/◌, ◌%◌, ◌≤◌, ◌≡◌, ◌∷◌, ◌++◌}
+use Rattle.numbers.specs.Library.{ℕ, zero, suc, arith, Bool, true, false, refl, ap, ◌∙◌, List, [], eqb, ltb, length}
 use Rattle.numbers.specs.Library.{length-append, ne_eqb}
 use Rattle.numbers.specs.Prelude.{pick}
 use Rattle.rows.specs.declared.live.Live.{Live}

@@ -1,5 +1,6 @@
 -- Text put into a buffer, and its laws: what comes after, and what there is room for. Assumes nothing.
-use Rattle.numbers.specs.Library.{ℕ, suc, ◌+◌, ◌-◌, ◌≤◌, ◌<◌, min, arith, dec_lt, ◌≡◌, refl, sym, ap, ◌∙◌, List, [], ◌∷◌, ◌++◌, length, take, drop, set}
+use Rattle.std.specs.Prelude.{◌+◌, ◌-◌, ◌≤◌, ◌<◌, ◌≡◌, ◌∷◌, ◌++◌}
+use Rattle.numbers.specs.Library.{ℕ, suc, min, arith, dec_lt, refl, sym, ap, ◌∙◌, List, [], length, take, drop, set}
 use Rattle.numbers.specs.Library.{length-append, length-set}
 use Rattle.std.proofs.lemmas.List.Edits.{sets, sets-eq}
 use Rattle.std.proofs.Math.Seq.{length-sets, set_out}

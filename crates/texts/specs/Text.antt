@@ -1,5 +1,6 @@
 -- Numbers and lines as text, in bytes. Assumes nothing.
-use Rattle.numbers.specs.Library.{ℕ, zero, suc, ◌+◌, ◌/◌, ◌%◌, List, [], ◌∷◌, ◌++◌, ltb}
+use Rattle.std.specs.Prelude.{◌+◌, ◌/◌, ◌%◌, ◌∷◌, ◌++◌}
+use Rattle.numbers.specs.Library.{ℕ, zero, suc, List, [], ltb}
 use Rattle.numbers.specs.Prelude.{pick}
 
 -- n's digits, '0' to '9', the most significant first; the first argument bounds their count

@@ -8,7 +8,7 @@ ghost use Rattle.texts.specs.declared.answer.Answer.TheVariants.{Made, Item, Spa
 use crate::text::{put_line, put_number, put_text};
 use rows::live::Live;
 
-#[derive(Drop)]
+#[derive(Clone, Copy)]
 pub enum Answer {
     // To r and c.
     Done,
