@@ -9,7 +9,7 @@ for tool in rt rustc valgrind callgrind_annotate awk; do
     command -v $tool >/dev/null || { echo "bench: $tool is not there" >&2; exit 2; }
 done
 cd "$top"
-rt staticlib bench_images >&2
+tools/built bench_images
 out=target/bench
 mkdir -p $out
 rustc --edition 2021 --cap-lints allow -O -L target/staticlib -l static=bench_images -o $out/images.bin bench/images.rs

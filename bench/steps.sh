@@ -10,7 +10,7 @@ for tool in rt rustc valgrind callgrind_annotate awk; do
     command -v $tool >/dev/null || { echo "bench: $tool is not there" >&2; exit 2; }
 done
 cd "$top"
-rt staticlib bench_calls >&2
+tools/built bench_calls
 out=target/bench
 mkdir -p $out/plain
 # The Rust as a release build has it. The oracle's own build has overflow checks on, which would count for the Rust.

@@ -1,5 +1,5 @@
 /* Plytimber: a texture-atlas allocator over tables that you lend. Link target/staticlib/libplytimber.a, which
- * `rt staticlib plytimber` writes; of C's library it needs memset, and nothing of any other.
+ * `tools/built plytimber` writes; of C's library it needs memset, and nothing of any other.
  *
  *     An atlas is a header of 24 bytes and two tables of uint16_t, all three yours: static, on a stack, or in memory that
  *     outlives a restart. There is no heap, no lock and no hidden state.

@@ -1,11 +1,12 @@
 -- The answers of the calls without the audit, as the benchmark's driver gets them. Assumes nothing.
-use Rattle.numbers.specs.Library.{ℕ, ◌+◌, ◌*◌, ◌/◌, ◌%◌, ◌≡◌, subst, List, ℤ, length, get_or, set, arith}
+use Rattle.std.specs.Prelude.{◌+◌, ◌*◌, ◌/◌, ◌%◌, ◌≡◌}
+use Rattle.numbers.specs.Library.{ℕ, subst, List, ℤ, length, get_or, set, arith}
 use Rattle.rows.specs.Prelude.{each_all}
 use Rattle.rows.specs.declared.header.Header.{Header}
 use Rattle.hosts.specs.Values.{header_of}
 use Rattle.hosts.specs.declared.values.AtlasHeader.{AtlasHeader}
 use Rattle.promises.specs.Prelude.{Allocates, Releases, LooksUp, Lists}
-use Rattle.promises.specs.declared.{answers.Grant.Grant, answers.Reply.Reply, answers.Listing.Listing, answers.Allocated.Allocated, answers.Replied.Replied}
+use Rattle.promises.specs.declared.{answers.Grant.Grant, answers.Listing.Listing, answers.Allocated.Allocated, answers.Replied.Replied}
 use Rattle.hosts.specs.Told.{grant_told, reply_told, count_told}
 use Rattle.hosts.specs.declared.{values.HostGrant.HostGrant, values.HostCount.HostCount}
 

@@ -1,5 +1,7 @@
-// The calls without the audit, as a host would link them: for bench/steps.sh, which counts their instructions against the Rust's. They are no part of
+// The calls without the audit: for bench/steps.sh, which counts their instructions against the Rust's. bench_calls_c exports them. They are no part of
 // what a host is given: nothing checks what they ask of a caller in C.
+#![tactic(auto)]
+
 ghost use Rattle.std.specs.Prelude.{◌≡◌, ◌*◌, ◌+◌};
 ghost use Rattle.hosts.specs.Values.{header_of};
 ghost use Rattle.rules.specs.Prelude.{Passes};
@@ -55,8 +57,7 @@ fn put_header(n: &mut [u16; 12], h: Header)
     n[11] = (h.occupied / 65536) as u16;
 }
 
-#[unsafe(no_mangle)]
-pub extern "C" fn bench_allocate(
+pub fn bench_allocate(
     header: &mut [u16; 12],
     shelves: &mut [u16],
     items: &mut [u16],
@@ -74,8 +75,7 @@ pub extern "C" fn bench_allocate(
     grant_told(answer)
 }
 
-#[unsafe(no_mangle)]
-pub extern "C" fn bench_release(
+pub fn bench_release(
     header: &mut [u16; 12],
     shelves: &mut [u16],
     items: &mut [u16],
@@ -93,8 +93,7 @@ pub extern "C" fn bench_release(
     reply_told(answer)
 }
 
-#[unsafe(no_mangle)]
-pub extern "C" fn bench_look_up(
+pub fn bench_look_up(
     header: AtlasHeader,
     shelves: &[u16],
     items: &[u16],
@@ -108,13 +107,7 @@ pub extern "C" fn bench_look_up(
     grant_told(look_up_unaudited(h, shelves, items, row, generation))
 }
 
-#[unsafe(no_mangle)]
-pub extern "C" fn bench_list(
-    header: AtlasHeader,
-    shelves: &[u16],
-    items: &[u16],
-    out: &mut [u16],
-) -> HostCount
+pub fn bench_list(header: AtlasHeader, shelves: &[u16], items: &[u16], out: &mut [u16]) -> HostCount
     requires { Passes (header_of header) shelves.now items.now }
     ensures { ListsSo header shelves.now items.now out.old result out.new }
 {

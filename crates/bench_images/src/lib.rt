@@ -1,4 +1,6 @@
-// Save without the audit, load, and the audit alone, under names that a driver can link: for bench/images.sh, and no part of what a host is given.
+// Save without the audit, load, and the audit alone: for bench/images.sh, and no part of what a host is given. bench_images_c exports them.
+#![tactic(auto)]
+
 ghost use Rattle.hosts.specs.Values.{header_of};
 ghost use Rattle.rules.specs.Prelude.{Passes};
 
@@ -8,13 +10,7 @@ use image_promises::answers::Saving;
 use promises::answers::Reply;
 
 // The image's length, or 0 where there is no room.
-#[unsafe(no_mangle)]
-pub extern "C" fn bench_save(
-    header: AtlasHeader,
-    shelves: &[u16],
-    items: &[u16],
-    out: &mut [u8],
-) -> u32
+pub fn bench_save(header: AtlasHeader, shelves: &[u16], items: &[u16], out: &mut [u8]) -> u32
     requires { Passes (header_of header) shelves.now items.now }
 {
     match save::save_unaudited(values::header_of(header), shelves, items, out) {
@@ -24,8 +20,7 @@ pub extern "C" fn bench_save(
 }
 
 // The number of the answer.
-#[unsafe(no_mangle)]
-pub extern "C" fn bench_load(image: &[u8], shelves: &mut [u16], items: &mut [u16]) -> u32 {
+pub fn bench_load(image: &[u8], shelves: &mut [u16], items: &mut [u16]) -> u32 {
     let r = load::load(image, shelves, items);
     let answer = r.answer;
     match answer {
@@ -35,8 +30,7 @@ pub extern "C" fn bench_load(image: &[u8], shelves: &mut [u16], items: &mut [u16
 }
 
 // The number of the audit's answer.
-#[unsafe(no_mangle)]
-pub extern "C" fn bench_audit(header: AtlasHeader, shelves: &[u16], items: &[u16]) -> u32 {
+pub fn bench_audit(header: AtlasHeader, shelves: &[u16], items: &[u16]) -> u32 {
     if audit::passes(values::header_of(header), shelves, items) {
         return 0;
     }

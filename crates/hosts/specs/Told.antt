@@ -1,5 +1,6 @@
 -- Each answer as a host is told it: "0 is success", "a refusal returns zeros besides its number". And what the calls promise of a host's header. Assumes nothing.
-use Rattle.numbers.specs.Library.{ℕ, ◌≡◌, List, ℤ}
+use Rattle.std.specs.Prelude.{◌≡◌}
+use Rattle.numbers.specs.Library.{ℕ, List, ℤ}
 use Rattle.numbers.specs.Prelude.{pick}
 use Rattle.promises.specs.Prelude.{Allocates, Releases, Clears}
 use Rattle.promises.specs.declared.{answers.Grant.Grant, answers.Reply.Reply, answers.Listing.Listing, answers.Area.Area, answers.Extent.Extent, answers.Vacancy.Vacancy}

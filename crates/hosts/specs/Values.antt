@@ -1,5 +1,6 @@
 -- A host's header, and the header that it is. Assumes nothing.
-use Rattle.numbers.specs.Library.{◌≡◌, refl}
+use Rattle.std.specs.Prelude.{◌≡◌}
+use Rattle.numbers.specs.Library.{refl}
 use Rattle.rows.specs.declared.header.Header.{Header}
 use Rattle.hosts.specs.declared.values.AtlasHeader.{AtlasHeader}
 

@@ -1,5 +1,7 @@
 // What a host in C or Rust holds and is told: plain structs of numbers. And the three calls that change an atlas, on a host's header by value, from which
 // the exported calls that change it in place are made.
+#![tactic(auto)]
+
 ghost use Rattle.hosts.specs.Told.{AllocatesHere, ReleasesHere, ClearsHere};
 
 use crate::values::{AtlasHeader, HostGrant};
@@ -8,13 +10,13 @@ pub mod told;
 pub mod values;
 
 // A call's answer, and the header after it.
-#[derive(Drop)]
+#[derive(Clone, Copy)]
 pub struct HostAllocated {
     pub answer: HostGrant,
     pub header: AtlasHeader,
 }
 
-#[derive(Drop)]
+#[derive(Clone, Copy)]
 pub struct HostReplied {
     pub answer: u32,
     pub header: AtlasHeader,

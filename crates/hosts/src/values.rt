@@ -8,7 +8,7 @@ use rows::header::Header;
 
 // The header as a host holds it: eleven numbers in the order of document 01, 24 bytes.
 #[repr(C)]
-#[derive(Drop)]
+#[derive(Clone, Copy)]
 pub struct AtlasHeader {
     pub width: u16,
     pub height: u16,
@@ -25,7 +25,7 @@ pub struct AtlasHeader {
 
 // To allocate and look-up: the id, and the corners of the rectangle. Six u16 would come back packed in two registers, which costs: these come back in memory.
 #[repr(C)]
-#[derive(Drop)]
+#[derive(Clone, Copy)]
 pub struct HostGrant {
     pub answer: u32,
     pub row: u32,
@@ -38,7 +38,7 @@ pub struct HostGrant {
 
 // To create: the columns, and the header of the new atlas.
 #[repr(C)]
-#[derive(Drop)]
+#[derive(Clone, Copy)]
 pub struct HostCreated {
     pub answer: u32,
     pub columns: u32,
@@ -47,7 +47,7 @@ pub struct HostCreated {
 
 // To list: how many items are listed.
 #[repr(C)]
-#[derive(Drop)]
+#[derive(Clone, Copy)]
 pub struct HostCount {
     pub answer: u32,
     pub count: u32,
@@ -55,7 +55,7 @@ pub struct HostCount {
 
 // To occupied and free space.
 #[repr(C)]
-#[derive(Drop)]
+#[derive(Clone, Copy)]
 pub struct HostArea {
     pub answer: u32,
     pub area: u32,
@@ -63,7 +63,7 @@ pub struct HostArea {
 
 // To size: width and height, as they were given to create.
 #[repr(C)]
-#[derive(Drop)]
+#[derive(Clone, Copy)]
 pub struct HostExtent {
     pub answer: u32,
     pub width: u32,
@@ -72,7 +72,7 @@ pub struct HostExtent {
 
 // To is_empty: 1 where nothing is live, else 0.
 #[repr(C)]
-#[derive(Drop)]
+#[derive(Clone, Copy)]
 pub struct HostVacancy {
     pub answer: u32,
     pub vacant: u32,
@@ -80,7 +80,7 @@ pub struct HostVacancy {
 
 // To save: how many bytes the image has.
 #[repr(C)]
-#[derive(Drop)]
+#[derive(Clone, Copy)]
 pub struct HostSaved {
     pub answer: u32,
     pub length: u32,
@@ -88,7 +88,7 @@ pub struct HostSaved {
 
 // To load: the header of the loaded atlas; all zero where it is refused.
 #[repr(C)]
-#[derive(Drop)]
+#[derive(Clone, Copy)]
 pub struct HostLoaded {
     pub answer: u32,
     pub header: AtlasHeader,
@@ -96,7 +96,7 @@ pub struct HostLoaded {
 
 // To a batch: how many requests were answered, and the header after them.
 #[repr(C)]
-#[derive(Drop)]
+#[derive(Clone, Copy)]
 pub struct HostBatched {
     pub answer: u32,
     pub count: u32,

@@ -1,5 +1,6 @@
 -- What the exported functions say to a host. Assumes nothing.
-use Rattle.numbers.specs.Library.{ℕ, ◌≡◌, ap, sym, ◌∙◌, List, ℤ}
+use Rattle.std.specs.Prelude.{◌≡◌}
+use Rattle.numbers.specs.Library.{ℕ, ap, sym, ◌∙◌, List, ℤ}
 use Rattle.audit.specs.Verdicts.{Exact, one_verdict}
 use Rattle.audit.specs.declared.Verdict.{Verdict}
 use Rattle.audit.specs.declared.Verdict.TheVariants.{Passes, Rule1, Rule2, Rule3, Rules5To7}

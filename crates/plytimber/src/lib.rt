@@ -1,4 +1,6 @@
-// What a host in C or Rust links: the calls as exported functions, over numbers, lent tables and plain structs.
+// The calls of a host in C or Rust, over numbers, lent tables and plain structs. plytimber_c exports them.
+#![tactic(auto)]
+
 ghost use Rattle.std.specs.Prelude.{◌≡◌};
 ghost use Rattle.hosts.specs.Told.{AllocatesHere, ReleasesHere, ClearsHere};
 ghost use Rattle.plytimber.specs.Host.{failing, AuditSays, CreatesHere, LooksUpHere, ListsHere, OccupiedHere, FreeSpaceHere, SizeHere, EmptyHere, saved_told, SavesHere, LoadsHere, BatchesHere};
@@ -19,7 +21,7 @@ const AUDIT_FAILS: u32 = 3;
 
 // An answer of document 01, and beside it the rule: 0 where all hold, else the first that fails, 5 for one of 5 to 7.
 #[repr(C)]
-#[derive(Drop)]
+#[derive(Clone, Copy)]
 pub struct AuditAnswer {
     pub answer: u32,
     pub rule: u32,
@@ -34,12 +36,7 @@ fn fails(rule: u32) -> AuditAnswer
     }
 }
 
-#[unsafe(no_mangle)]
-pub extern "C" fn plytimber_audit(
-    header: AtlasHeader,
-    shelves: &[u16],
-    items: &[u16],
-) -> AuditAnswer
+pub fn plytimber_audit(header: AtlasHeader, shelves: &[u16], items: &[u16]) -> AuditAnswer
     ensures { AuditSays header shelves.now items.now result }
 {
     match audit::audit(header_of(header), shelves, items) {
@@ -56,8 +53,7 @@ pub extern "C" fn plytimber_audit(
 
 // ---- the calls that change an atlas: the header is lent and changed in place
 
-#[unsafe(no_mangle)]
-pub extern "C" fn plytimber_allocate(
+pub fn plytimber_allocate(
     h: &mut AtlasHeader,
     shelves: &mut [u16],
     items: &mut [u16],
@@ -72,8 +68,7 @@ pub extern "C" fn plytimber_allocate(
     granted.answer
 }
 
-#[unsafe(no_mangle)]
-pub extern "C" fn plytimber_release(
+pub fn plytimber_release(
     h: &mut AtlasHeader,
     shelves: &mut [u16],
     items: &mut [u16],
@@ -88,12 +83,7 @@ pub extern "C" fn plytimber_release(
     released.answer
 }
 
-#[unsafe(no_mangle)]
-pub extern "C" fn plytimber_clear(
-    h: &mut AtlasHeader,
-    shelves: &mut [u16],
-    items: &mut [u16],
-) -> u32
+pub fn plytimber_clear(h: &mut AtlasHeader, shelves: &mut [u16], items: &mut [u16]) -> u32
     ensures { ClearsHere h.old shelves.old items.old result h.new shelves.new items.new }
 {
     let v = *h;
@@ -104,8 +94,7 @@ pub extern "C" fn plytimber_clear(
 
 // ---- create, which takes no header and returns one
 
-#[unsafe(no_mangle)]
-pub extern "C" fn plytimber_create(
+pub fn plytimber_create(
     shelves: &mut [u16],
     items: &mut [u16],
     w: i32,
@@ -134,8 +123,7 @@ pub extern "C" fn plytimber_create(
 
 // ---- the calls that change nothing
 
-#[unsafe(no_mangle)]
-pub extern "C" fn plytimber_look_up(
+pub fn plytimber_look_up(
     h: AtlasHeader,
     shelves: &[u16],
     items: &[u16],
@@ -148,41 +136,31 @@ pub extern "C" fn plytimber_look_up(
 }
 
 // Six numbers a record: row, generation, x0, y0, x1, y1.
-#[unsafe(no_mangle)]
-pub extern "C" fn plytimber_list(
-    h: AtlasHeader,
-    shelves: &[u16],
-    items: &[u16],
-    out: &mut [u16],
-) -> HostCount
+pub fn plytimber_list(h: AtlasHeader, shelves: &[u16], items: &[u16], out: &mut [u16]) -> HostCount
     ensures { ListsHere h shelves.now items.now out.old result out.new }
 {
     told::count_told(listing::list::list(header_of(h), shelves, items, out))
 }
 
-#[unsafe(no_mangle)]
-pub extern "C" fn plytimber_occupied(h: AtlasHeader, shelves: &[u16], items: &[u16]) -> HostArea
+pub fn plytimber_occupied(h: AtlasHeader, shelves: &[u16], items: &[u16]) -> HostArea
     ensures { OccupiedHere h shelves.now items.now result }
 {
     told::area_told(tell::occupied(header_of(h), shelves, items))
 }
 
-#[unsafe(no_mangle)]
-pub extern "C" fn plytimber_free_space(h: AtlasHeader, shelves: &[u16], items: &[u16]) -> HostArea
+pub fn plytimber_free_space(h: AtlasHeader, shelves: &[u16], items: &[u16]) -> HostArea
     ensures { FreeSpaceHere h shelves.now items.now result }
 {
     told::area_told(tell::free_space(header_of(h), shelves, items))
 }
 
-#[unsafe(no_mangle)]
-pub extern "C" fn plytimber_size(h: AtlasHeader, shelves: &[u16], items: &[u16]) -> HostExtent
+pub fn plytimber_size(h: AtlasHeader, shelves: &[u16], items: &[u16]) -> HostExtent
     ensures { SizeHere h shelves.now items.now result }
 {
     told::extent_told(tell::size(header_of(h), shelves, items))
 }
 
-#[unsafe(no_mangle)]
-pub extern "C" fn plytimber_is_empty(h: AtlasHeader, shelves: &[u16], items: &[u16]) -> HostVacancy
+pub fn plytimber_is_empty(h: AtlasHeader, shelves: &[u16], items: &[u16]) -> HostVacancy
     ensures { EmptyHere h shelves.now items.now result }
 {
     told::vacancy_told(tell::is_empty(header_of(h), shelves, items))
@@ -205,20 +183,13 @@ fn saved_told(answer: Saving) -> HostSaved
     }
 }
 
-#[unsafe(no_mangle)]
-pub extern "C" fn plytimber_save(
-    h: AtlasHeader,
-    shelves: &[u16],
-    items: &[u16],
-    out: &mut [u8],
-) -> HostSaved
+pub fn plytimber_save(h: AtlasHeader, shelves: &[u16], items: &[u16], out: &mut [u8]) -> HostSaved
     ensures { SavesHere h shelves.now items.now out.old result out.new }
 {
     saved_told(save::save(header_of(h), shelves, items, out))
 }
 
-#[unsafe(no_mangle)]
-pub extern "C" fn plytimber_load(image: &[u8], shelves: &mut [u16], items: &mut [u16]) -> HostLoaded
+pub fn plytimber_load(image: &[u8], shelves: &mut [u16], items: &mut [u16]) -> HostLoaded
     ensures { LoadsHere image.now shelves.old items.old result shelves.new items.new }
 {
     let loaded = load::load(image, shelves, items);
@@ -233,8 +204,7 @@ pub extern "C" fn plytimber_load(image: &[u8], shelves: &mut [u16], items: &mut 
 // ---- beyond document 01: a batch on one audit
 
 // Three numbers a request, seven an answer. The header after the batch is in what it returns.
-#[unsafe(no_mangle)]
-pub extern "C" fn plytimber_batch(
+pub fn plytimber_batch(
     h: AtlasHeader,
     shelves: &mut [u16],
     items: &mut [u16],

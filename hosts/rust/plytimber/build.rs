@@ -1,4 +1,4 @@
-//! Links libplytimber.a, which `rt staticlib plytimber` writes to the repository's target/staticlib. PLYTIMBER_LIB names another folder.
+//! Links libplytimber.a, which `tools/built plytimber` writes to the repository's target/staticlib. PLYTIMBER_LIB names another folder.
 use std::path::PathBuf;
 
 fn main() {
@@ -8,7 +8,7 @@ fn main() {
     println!("cargo:rerun-if-env-changed=PLYTIMBER_LIB");
     println!("cargo:rerun-if-changed={}", library.display());
     if !library.exists() {
-        println!("cargo:warning={} is not there: run `rt staticlib plytimber` first", library.display());
+        println!("cargo:warning={} is not there: run `tools/built plytimber` first", library.display());
     }
     println!("cargo:rustc-link-search=native={}", folder.display());
     println!("cargo:rustc-link-lib=static=plytimber");

@@ -1,0 +1,10 @@
+use Rattle.numbers.specs.Library.{to_z-of_z}
+use Rattle.hosts.proofs.allocate.Goals as goal
+
+pub returns : goal.returns
+returns c =
+    record {
+      said = c.allocate-said.result.answer;
+      promise = rw c.host_header-header.ensures (rw c.header_of.ensures at (simp (to_z-of_z c.ranges.w, to_z-of_z c.ranges.height) at c.allocate-said.ensures));
+      told = c.grant_told.ensures;
+    }
