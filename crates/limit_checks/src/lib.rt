@@ -8,8 +8,8 @@ ghost use Rattle.numbers.specs.Limits.{create_numbers};
 ghost use Rattle.numbers.specs.Limits as limits;
 
 use numbers::axes::{first_axis, second_axis};
-use numbers::limits::{Limited, Limits};
-use numbers::refusal;
+use numbers::limits::Limits;
+use numbers::refusal::Refusal;
 use numbers::sides::{MOST_SIDE, flag_of, natural_of, one_to};
 
 // The greatest H: the Rust adds 8 to a 16-bit depth, and never picks a shelf of depth 65535.
@@ -106,19 +106,19 @@ fn judge_limits(
     align_height: u32,
     vertical: u16,
     columns: u32,
-) -> Limited
+) -> Result<Limits, Refusal>
     ensures { result ≡ judged_limits columns (limits_for w h align_width align_height vertical columns) }
 {
     let width = first_axis(vertical, w, h);
     let height = second_axis(vertical, w, h);
     if !sizes_good(width, height) {
-        return Limited::Refused(refusal::SIZE);
+        return Err(Refusal::Size);
     }
     if !options_good(align_width, align_height, vertical) {
-        return Limited::Refused(refusal::OPTIONS);
+        return Err(Refusal::Options);
     }
     if columns < 1 {
-        return Limited::Refused(refusal::OPTIONS);
+        return Err(Refusal::Options);
     }
     let shelf_width = shelf_width_of(
         width,
@@ -126,14 +126,14 @@ fn judge_limits(
         first_axis(vertical, align_width, align_height),
     );
     if shelf_width < 1 {
-        return Limited::Refused(refusal::OPTIONS);
+        return Err(Refusal::Options);
     }
-    Limited::Within(Limits {
+    Ok(Limits {
         width: width as u16,
         height: height as u16,
         align_width: align_width as u16,
         align_height: align_height as u16,
-        vertical: vertical,
+        vertical,
         shelf_width: shelf_width as u16,
     })
 }
@@ -145,7 +145,7 @@ pub fn create_numbers(
     align_height: i32,
     vertical: i32,
     columns: i32,
-) -> Limited
+) -> Result<Limits, Refusal>
     ensures { result ≡ create_numbers w h align_width align_height vertical columns }
 {
     judge_limits(

@@ -1,9 +1,8 @@
 -- A request that is neither 4 nor 5 asks for what `Placeable` says.
-use Rattle.std.specs.Prelude.{◌%◌, ◌≤◌, ◌≡◌, ◌&&◌}
+use Rattle.std.specs.Prelude.{◌%◌, ◌≤◌, ◌≡◌, ◌&&◌, Option, Some, None, Ok, Err}
 use Rattle.numbers.specs.Library.{ℕ, refl, Bool, true, false, arith, leb, eqb, ℤ, leb-true}
-use Rattle.numbers.specs.declared.{sides.Side.Side, limits.Limits.Limits, request.Asked.Asked}
-use Rattle.numbers.specs.declared.sides.Side.TheVariants.{Fits, Bad}
-use Rattle.numbers.specs.declared.request.Request.TheVariants.{Good, Refused}
+use Rattle.numbers.specs.declared.{limits.Limits.Limits, request.Asked.Asked}
+use Rattle.numbers.specs.declared.refusal.Refusal.TheVariants as refusal
 use Rattle.numbers.specs.Pick.{pick}
 use Rattle.numbers.specs.Tests.{both}
 use Rattle.numbers.specs.Axes.{first_axis, second_axis}
@@ -15,12 +14,12 @@ use Rattle.numbers.specs.Request.{asked_within, asked_of, judged, asked}
 use Rattle.numbers.specs.Placeable.{Placeable}
 
 module _ (l : Limits) (a : Asked) where
-  within_placeable : (width depth : ℕ) → 1 ≤ width → width % along_step l ≡ 0 → 1 ≤ depth → asked_within l width depth ≡ Good a → Placeable l a
+  within_placeable : (width depth : ℕ) → 1 ≤ width → width % along_step l ≡ 0 → 1 ≤ depth → asked_within l width depth ≡ Ok a → Placeable l a
   unfolding asked_within
   within_placeable width depth w m d e = go (leb width l.shelf_width && leb depth l.height) refl e where
     go :
         (b : Bool) → (leb width l.shelf_width && leb depth l.height) ≡ b
-        → pick b (Good (record { width = width; depth = shelf_height l.height depth; aligned = depth })) (Refused 5) ≡ Good a
+        → pick b (Ok (record { width = width; depth = shelf_height l.height depth; aligned = depth })) (Err refusal.TooLarge) ≡ Ok a
         → Placeable l a
     go true t e =
         let is : ◌≡◌ {A = Asked} (record { width = width; depth = shelf_height l.height depth; aligned = depth }) a = cc in
@@ -33,10 +32,10 @@ module _ (l : Limits) (a : Asked) where
           no_deeper = height_within l.height depth (leb-true depth l.height fit.1);
           rounded = refl;
         })
-    go false t e = absurd (let z : ◌≡◌ {A = ℕ} 0 1 = cc in omega arith)
+    go false t e = cc
 
   module _ (limits : WithinLimits l) where
-    sides_placeable : (w h : ℕ) → 1 ≤ w → 1 ≤ h → asked_of l w h ≡ Good a → Placeable l a
+    sides_placeable : (w h : ℕ) → 1 ≤ w → 1 ≤ h → asked_of l w h ≡ Ok a → Placeable l a
     unfolding asked_of along_step first_axis second_axis
     sides_placeable w h m n e = go (eqb l.vertical 1) refl e where
       x : RoundsUp l.align_width w (round_up l.align_width w)
@@ -49,15 +48,15 @@ module _ (l : Limits) (a : Asked) where
           (b : Bool) → eqb l.vertical 1 ≡ b
           → asked_within l (pick b (round_up l.align_height h) (round_up l.align_width w))
           (pick b (round_up l.align_width w) (round_up l.align_height h))
-          ≡ Good a
+          ≡ Ok a
           → Placeable l a
       go true v e = within_placeable _ _ (omega (arith, y.enough)) (rw v y.multiple) (omega (arith, x.enough)) e
       go false v e = within_placeable _ _ (omega (arith, x.enough)) (rw v x.multiple) (omega (arith, y.enough)) e
 
-    pub asked_placeable : (w h : ℤ) → asked l w h ≡ Good a → Placeable l a
+    pub asked_placeable : (w h : ℤ) → asked l w h ≡ Ok a → Placeable l a
     unfolding asked judged
     asked_placeable w h e = go (side_of w) (side_of h) refl refl e where
-      go : (s t : Side) → side_of w ≡ s → side_of h ≡ t → judged l s t ≡ Good a → Placeable l a
-      go (Fits m) (Fits n) p q e = sides_placeable m n (side_range w m p).0 (side_range h n q).0 e
-      go (Fits m) Bad p q e = absurd (let z : ◌≡◌ {A = ℕ} 0 1 = cc in omega arith)
-      go Bad t p q e = absurd (let z : ◌≡◌ {A = ℕ} 0 1 = cc in omega arith)
+      go : (s t : Option ℕ) → side_of w ≡ s → side_of h ≡ t → judged l s t ≡ Ok a → Placeable l a
+      go (Some m) (Some n) p q e = sides_placeable m n (side_range w m p).0 (side_range h n q).0 e
+      go (Some m) None p q e = cc
+      go None t p q e = cc

@@ -1,9 +1,9 @@
 -- What create accepts is within the limits. Assumes nothing.
-use Rattle.std.specs.Prelude.{◌*◌, ◌-◌, ◌/◌, ◌%◌, ◌≡◌, ◌&&◌}
+use Rattle.std.specs.Prelude.{◌*◌, ◌-◌, ◌/◌, ◌%◌, ◌≡◌, ◌&&◌, Ok, Err}
 use Rattle.numbers.specs.Library.{ℕ, refl, Bool, true, false, div-add-mod', arith, leb, ℤ, leb-true}
 use Rattle.std.proofs.Math.Nat.{mul-mod_left}
 use Rattle.numbers.specs.declared.limits.Limits.{Limits}
-use Rattle.numbers.specs.declared.limits.Limited.TheVariants.{Within, Refused}
+use Rattle.numbers.specs.declared.refusal.Refusal.TheVariants as refusal
 use Rattle.numbers.specs.Pick.{pick}
 use Rattle.numbers.specs.Tests.{both}
 use Rattle.numbers.specs.Axes.{first_axis}
@@ -22,16 +22,16 @@ shelf_width_multiple width columns step =
 -- an accepted create passed all of its tests
 module _ (columns : ℕ) (l made : Limits) where
   pub accepted_tests :
-      judged_limits columns l ≡ Within made
+      judged_limits columns l ≡ Ok made
       → (sizes_good l.width l.height ≡ true)
       × ((options_good l.align_width l.align_height l.vertical && (leb 1 columns && leb 1 l.shelf_width)) ≡ true)
       × (l ≡ made)
   unfolding judged_limits
   accepted_tests e = go _ _ e where
-    go : (a b : Bool) → pick a (pick b (Within l) (Refused 2)) (Refused 1) ≡ Within made → (a ≡ true) × (b ≡ true) × (l ≡ made)
+    go : (a b : Bool) → pick a (pick b (Ok l) (Err refusal.Options)) (Err refusal.Size) ≡ Ok made → (a ≡ true) × (b ≡ true) × (l ≡ made)
     go true true e = (refl, refl, cc)
-    go true false e = absurd (let z : ◌≡◌ {A = ℕ} 0 1 = cc in omega arith)
-    go false b e = absurd (let z : ◌≡◌ {A = ℕ} 0 1 = cc in omega arith)
+    go true false e = cc
+    go false b e = cc
 
 kept :
     (w h x y v n : ℕ)
@@ -54,7 +54,7 @@ kept w h x y v n s o =
 -- what create makes keeps the limits
 pub created_within :
     (w h alignWidth alignHeight vertical columns : ℤ) (made : Limits)
-    → create_numbers w h alignWidth alignHeight vertical columns ≡ Within made
+    → create_numbers w h alignWidth alignHeight vertical columns ≡ Ok made
     → WithinLimits made
 unfolding create_numbers
 created_within w h alignWidth alignHeight vertical columns made e =

@@ -8,6 +8,7 @@ pub mod Fit
 pub mod Tests
 pub mod Axes
 pub mod Sides
+pub mod Refusal
 pub mod Request
 pub mod Limits
 pub mod Created

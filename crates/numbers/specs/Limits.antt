@@ -1,10 +1,11 @@
 -- The limits of an atlas: what create accepts, and what every header keeps. Assumes nothing.
-use Rattle.std.specs.Prelude.{◌*◌, ◌-◌, ◌/◌, ◌%◌, ◌<◌, ◌≤◌, ◌≡◌, ◌&&◌}
+use Rattle.std.specs.Prelude.{◌*◌, ◌-◌, ◌/◌, ◌%◌, ◌<◌, ◌≤◌, ◌≡◌, ◌&&◌, Result, Ok, Err}
 use Rattle.numbers.specs.Library.{ℕ, ◌∙◌, Bool, true, false, div-mul-le_self, le-div_iff_mul-le, arith, leb, eqb}
 use Rattle.numbers.specs.Library.{ℤ, leb-true, le-leb, lt-leb, eqb-true, eq-eqb}
 use Rattle.std.proofs.Common.{div-le_self}
-use Rattle.numbers.specs.declared.{limits.Limits.Limits, limits.Limited.Limited}
-use Rattle.numbers.specs.declared.limits.Limited.TheVariants.{Within, Refused}
+use Rattle.numbers.specs.declared.limits.Limits.{Limits}
+use Rattle.numbers.specs.declared.refusal.Refusal.{Refusal}
+use Rattle.numbers.specs.declared.refusal.Refusal.TheVariants as refusal
 use Rattle.numbers.specs.Pick.{pick, pick_yes, pick_no}
 use Rattle.numbers.specs.Decides.{Decides}
 use Rattle.numbers.specs.Tests.{both}
@@ -69,17 +70,17 @@ limits_for w h alignWidth alignHeight vertical columns = record {
 }
 
 -- answer 1 for the sizes; then answer 2 for the options, for no column, and for an S of 0
-unfoldable pub judged_limits : ℕ → Limits → Limited
+unfoldable pub judged_limits : ℕ → Limits → Result Limits Refusal
 unfolding sizes_good options_good
 judged_limits columns l =
     pick (sizes_good l.width l.height)
     (pick (options_good l.align_width l.align_height l.vertical && (leb 1 columns && leb 1 l.shelf_width))
-    (Within l)
-    (Refused 2))
-    (Refused 1)
+    (Ok l)
+    (Err refusal.Options))
+    (Err refusal.Size)
 
 -- create's numbers, as they are given; a vertical that is neither 0 nor 1 leaves x and y in place, and is answer 2
-unfoldable pub create_numbers : ℤ → ℤ → ℤ → ℤ → ℤ → ℤ → Limited
+unfoldable pub create_numbers : ℤ → ℤ → ℤ → ℤ → ℤ → ℤ → Result Limits Refusal
 unfolding judged_limits limits_for natural flag_of
 create_numbers w h alignWidth alignHeight vertical columns =
     judged_limits (natural columns)
@@ -163,26 +164,26 @@ shelf_width_most width columns step = omega (arith, div-le_self width columns)
 
 -- the answers of create, case by case
 module _ (columns : ℕ) (l : Limits) where
-  pub refused_1 : sizes_good l.width l.height ≡ false → judged_limits columns l ≡ Refused 1
+  pub refused_1 : sizes_good l.width l.height ≡ false → judged_limits columns l ≡ Err refusal.Size
   unfolding judged_limits
   refused_1 e = pick_no _ _ e
 
   module _ (sizes : sizes_good l.width l.height ≡ true) where
     pub refused_2 :
         (options_good l.align_width l.align_height l.vertical && (leb 1 columns && leb 1 l.shelf_width)) ≡ false
-        → judged_limits columns l ≡ Refused 2
+        → judged_limits columns l ≡ Err refusal.Options
     unfolding judged_limits
     refused_2 e = pick_yes _ _ sizes ∙ pick_no _ _ e
 
     module _ (options : options_good l.align_width l.align_height l.vertical ≡ true) where
-      pub no_columns : columns < 1 → judged_limits columns l ≡ Refused 2
+      pub no_columns : columns < 1 → judged_limits columns l ≡ Err refusal.Options
       no_columns h = refused_2 (rw (options, lt-leb 1 columns h))
 
       module _ (some : 1 ≤ columns) where
-        pub no_shelf_width : l.shelf_width < 1 → judged_limits columns l ≡ Refused 2
+        pub no_shelf_width : l.shelf_width < 1 → judged_limits columns l ≡ Err refusal.Options
         no_shelf_width h = refused_2 (rw (options, le-leb 1 columns some, lt-leb 1 l.shelf_width h))
 
-        pub accepted : 1 ≤ l.shelf_width → judged_limits columns l ≡ Within l
+        pub accepted : 1 ≤ l.shelf_width → judged_limits columns l ≡ Ok l
         unfolding judged_limits
         accepted h =
             let all : (options_good l.align_width l.align_height l.vertical && (leb 1 columns && leb 1 l.shelf_width)) ≡ true =

@@ -11,6 +11,7 @@ pub use Rattle.numbers.specs.Tests.{both, stop, go_on}
 unfoldable pub use Rattle.numbers.specs.Axes.{first_axis, second_axis}
 pub use Rattle.numbers.specs.Sides.{most_side, one_to_lem, natural_negative, natural_positive, flag_negative, flag_positive, side_fits, side_bad}
 unfoldable pub use Rattle.numbers.specs.Sides.{one_to, natural, flag_of, side_of}
+pub use Rattle.numbers.specs.Refusal.{refusal_number, same_number}
 pub use Rattle.numbers.specs.Request.{too_wide, too_deep, fitting, bad_width, bad_height, good_sides}
 unfoldable pub use Rattle.numbers.specs.Request.{asked_of, asked}
 pub use Rattle.numbers.specs.Limits.{most_height, most_area, WithinLimits, sizes_say, options_say, shelf_width_says, shelf_width_most, refused_1, refused_2}

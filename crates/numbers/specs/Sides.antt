@@ -1,10 +1,8 @@
 -- Raw numbers, as a caller gives them, and the limits that they are judged by. Assumes nothing.
 use Rattle.numbers.specs.Library.{ℕ, min, refl, sym, Bool, true, false, false≢true, arith, leb, ℤ, pos, negsuc, lt_z, ltb-true, leb-true}
 use Rattle.numbers.specs.Library.{le-leb}
-use Rattle.std.specs.Prelude.{◌≤◌, ◌≡◌, ◌&&◌, T, nat_abs}
+use Rattle.std.specs.Prelude.{◌≤◌, ◌≡◌, ◌&&◌, T, nat_abs, Option, Some, None}
 use Rattle.std.specs.Int.Signed.{non_neg}
-use Rattle.numbers.specs.declared.sides.Side.{Side}
-use Rattle.numbers.specs.declared.sides.Side.TheVariants.{Fits, Bad}
 use Rattle.numbers.specs.Decides.{Decides}
 use Rattle.numbers.specs.Tests.{both}
 use Rattle.numbers.specs.Pick.{pick, pick_yes, pick_no}
@@ -28,9 +26,9 @@ flag_of (pos n) = min n 2
 flag_of (negsuc n) = 2
 
 -- a side of 1 to 65535; 0, negative or over that is bad
-unfoldable pub side_of : ℤ → Side
+unfoldable pub side_of : ℤ → Option ℕ
 unfolding one_to natural
-side_of raw = pick (one_to most_side (natural raw)) (Fits (natural raw)) Bad
+side_of raw = pick (one_to most_side (natural raw)) (Some (natural raw)) None
 
 -- ---- laws
 
@@ -64,20 +62,20 @@ flag_positive (pos n) h = refl
 flag_positive (negsuc n) h = absurd (false≢true (sym h))
 
 module _ (z : ℤ) (n : ℕ) (is : n ≡ natural z) where
-  pub side_fits : one_to most_side n ≡ true → side_of z ≡ Fits n
+  pub side_fits : one_to most_side n ≡ true → side_of z ≡ Some n
   unfolding side_of
-  side_fits h = rw (← is) (pick_yes (Fits n) Bad h)
+  side_fits h = rw (← is) (pick_yes (Some n) None h)
 
-  pub side_bad : one_to most_side n ≡ false → side_of z ≡ Bad
+  pub side_bad : one_to most_side n ≡ false → side_of z ≡ None
   unfolding side_of
-  side_bad h = rw (← is) (pick_no (Fits n) Bad h)
+  side_bad h = rw (← is) (pick_no (Some n) None h)
 
 -- a side that fits lies within the limits
-pub side_range : (z : ℤ) (n : ℕ) → side_of z ≡ Fits n → (1 ≤ n) × (n ≤ most_side)
+pub side_range : (z : ℤ) (n : ℕ) → side_of z ≡ Some n → (1 ≤ n) × (n ≤ most_side)
 unfolding side_of
 side_range z n e = go (one_to most_side (natural z)) refl e where
-  go : (b : Bool) → one_to most_side (natural z) ≡ b → pick b (Fits (natural z)) Bad ≡ Fits n → (1 ≤ n) × (n ≤ most_side)
+  go : (b : Bool) → one_to most_side (natural z) ≡ b → pick b (Some (natural z)) None ≡ Some n → (1 ≤ n) × (n ≤ most_side)
   go true t e =
       let is : natural z ≡ n = cc in
       rw (← is) ((one_to_lem most_side (natural z)).sound t)
-  go false t e = absurd (let z : ◌≡◌ {A = ℕ} 0 1 = cc in omega arith)
+  go false t e = cc

@@ -7,24 +7,16 @@ use crate::round::adjust_size;
 // A row is a band: its last depth and its step. The last band has no end, and the number in its place is never read.
 const BANDS: [[u16; 2]; 4] = [[31, 8], [127, 16], [511, 32], [65535, 64]];
 
-fn wide(n: u16) -> u32
-    ensures { result ≡ n }
-{
-    n as u32
-}
-
 // The band of a depth, 0 to 3.
 pub fn depth_band(depth: u32) -> usize
     ensures { result ≡ depth_band depth }
 {
-    let mut i: usize = 0;
-    while i < 3 {
-        if depth <= wide(BANDS[i][0]) {
+    for i in 0..3 {
+        if depth <= u32::from(BANDS[i][0]) {
             return i;
         }
-        i += 1;
     }
-    i
+    3
 }
 
 pub fn depth_step(depth: u32) -> u16

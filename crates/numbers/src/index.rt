@@ -9,7 +9,7 @@ pub const NO_ROW: u16 = 65535;
 pub const MOST_ROWS: u16 = NO_ROW;
 
 // A row of the shelf table, or none.
-#[derive(Clone, Copy)]
+#[derive(Clone, Copy, Debug, PartialEq, Eq)]
 pub struct ShelfIndex(pub u16);
 
 impl ShelfIndex {
@@ -30,12 +30,12 @@ impl ShelfIndex {
     pub fn is_none(self) -> bool
         ensures { result ≡ eqb self.0 no_row }
     {
-        self.0 == ShelfIndex::NONE.0
+        self == ShelfIndex::NONE
     }
 }
 
 // A row of the item table, or none.
-#[derive(Clone, Copy)]
+#[derive(Clone, Copy, Debug, PartialEq, Eq)]
 pub struct ItemIndex(pub u16);
 
 impl ItemIndex {
@@ -56,6 +56,6 @@ impl ItemIndex {
     pub fn is_none(self) -> bool
         ensures { result ≡ eqb self.0 no_row }
     {
-        self.0 == ItemIndex::NONE.0
+        self == ItemIndex::NONE
     }
 }

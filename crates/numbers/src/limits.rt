@@ -12,10 +12,3 @@ pub struct Limits {
     // S.
     pub shelf_width: u16,
 }
-
-// Create's numbers: within the limits, or answer 1 or 2.
-#[derive(Clone, Copy)]
-pub enum Limited {
-    Within(Limits),
-    Refused(u16),
-}

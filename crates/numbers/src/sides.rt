@@ -5,12 +5,6 @@ ghost use Rattle.numbers.specs.Sides.{one_to, natural, flag_of, side_of};
 // The greatest side of an atlas or of a request, and the greatest alignment.
 pub const MOST_SIDE: u32 = 65535;
 
-#[derive(Clone, Copy)]
-pub enum Side {
-    Fits(u16),
-    Bad,
-}
-
 // The number lies from 1 to the greatest allowed.
 pub fn one_to(most: u32, n: u32) -> bool
     ensures { result ≡ one_to most n }
@@ -45,12 +39,13 @@ pub fn flag_of(raw: i32) -> u16
     2
 }
 
-pub fn side_of(raw: i32) -> Side
+// A side that an atlas or a request can have, or none.
+pub fn side_of(raw: i32) -> Option<u16>
     ensures { result ≡ side_of raw }
 {
     let n = natural_of(raw);
     if one_to(MOST_SIDE, n) {
-        return Side::Fits(n as u16);
+        return Some(n as u16);
     }
-    Side::Bad
+    None
 }

@@ -1,6 +1,6 @@
 -- The item table: what a row holds, and how it stands in the table. The width of a row is said here, and nowhere above.
 -- Assumes nothing.
-use Rattle.std.specs.Prelude.{◌∷◌, ◌*◌}
+use Rattle.std.specs.Prelude.{◌≡◌, ◌∷◌, ◌*◌}
 use Rattle.numbers.specs.Library.{refl, List, [], ℕ, lit<, get_or, set}
 use Rattle.numbers.specs.declared.{index.ItemIndex.ItemIndex, index.ShelfIndex.ShelfIndex}
 use Rattle.rows.specs.declared.item.ItemRow.{ItemRow}
@@ -41,6 +41,10 @@ items = record {
   back = λ a. refl;
   forth = each_all 9;
 }
+
+pub nine_numbers : items.width ≡ 9
+unfolding items
+nine_numbers = refl
 
 -- where the numbers of a row begin
 unfoldable pub item_start : ℕ → ℕ

@@ -5,6 +5,8 @@ pub mod Past
 pub mod Header
 pub mod Shelf
 pub mod Item
+pub mod Live
 pub mod Views
+pub mod State
 pub mod Links
 pub mod Prelude

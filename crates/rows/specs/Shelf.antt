@@ -1,6 +1,6 @@
 -- The shelf table: what a row holds, and how it stands in the table. The width of a row is said here, and nowhere above.
 -- Assumes nothing.
-use Rattle.std.specs.Prelude.{◌∷◌}
+use Rattle.std.specs.Prelude.{◌≡◌, ◌∷◌}
 use Rattle.numbers.specs.Library.{refl, List, [], ℕ, lit<, get_or, set}
 use Rattle.numbers.specs.declared.{index.ItemIndex.ItemIndex, index.ShelfIndex.ShelfIndex}
 use Rattle.rows.specs.declared.shelf.ShelfRow.{ShelfRow}
@@ -38,6 +38,10 @@ shelves = record {
   back = λ a. refl;
   forth = each_all 8;
 }
+
+pub eight_numbers : shelves.width ≡ 8
+unfolding shelves
+eight_numbers = refl
 
 -- how many rows a table has, the row at an index, and the table with another row there or with that row changed
 abbrev pub shelf_capacity : List ℕ → ℕ

@@ -4,4 +4,6 @@
 pub mod header;
 pub mod item;
 pub mod live;
+pub mod row;
 pub mod shelf;
+pub mod tables;

@@ -15,22 +15,22 @@ pub offset_bounds-items-start : goal.offset_bounds-items-start
 unfolding items item_start
 offset_bounds-items-start c = omega (arith, starts-below _ _ _ c.requires.0 c.requires.1)
 
-pub slice_bounds-read_item-count : goal.slice_bounds-read_item-count
+pub slice_bounds-read-count : goal.slice_bounds-read-count
 unfolding items item_start
-slice_bounds-read_item-count c = search rules
+slice_bounds-read-count c = search rules
 
-pub slice_bounds-read_item-start : goal.slice_bounds-read_item-start
+pub slice_bounds-read-start : goal.slice_bounds-read-start
 unfolding items item_start
-slice_bounds-read_item-start c = search rules
+slice_bounds-read-start c = search rules
 
-pub slice_bounds-read_item-end : goal.slice_bounds-read_item-end
+pub slice_bounds-read-end : goal.slice_bounds-read-end
 unfolding items item_start
-slice_bounds-read_item-end c = omega (arith, rows_fit items _ _ c.requires.0, c.requires.1)
+slice_bounds-read-end c = omega (arith, rows_fit items _ _ c.requires.0, c.requires.1)
 
-pub read_item-requires : goal.read_item-requires
+pub read-requires : goal.read-requires
 unfolding items item_start
-read_item-requires c = search rules
+read-requires c = search rules
 
 pub returns : goal.returns
 unfolding items item_start
-returns c = rw (c.read_item.ensures, c.requires.1) (get_there items _ _ c.requires.0)
+returns c = rw (c.read.ensures, c.requires.1) (get_there items _ _ c.requires.0)

@@ -1,19 +1,7 @@
-use Rattle.numbers.specs.Library.{rules}
-use Rattle.rows.specs.Prelude.{get_none, items, below_some}
+use Rattle.numbers.specs.Library.{sym, ◌∙◌, eqb-true}
+use Rattle.rows.specs.Prelude.{get_none, items}
 use Rattle.rows.proofs.item.linked_item.Goals as goal
 
-pub no_item-requires : goal.no_item-requires
+pub returns-then-is_none : goal.returns-then-is_none
 unfolding items
-no_item-requires c = search rules
-
-pub returns-then-at : goal.returns-then-at
-unfolding items
-returns-then-at c = rw c.no_item.ensures (get_none items _ _ (search rules))
-
-pub item_there-requires : goal.item_there-requires
-unfolding items
-item_there-requires c = below_some (search rules) (search rules)
-
-pub returns : goal.returns
-unfolding items
-returns c = c.item_there.ensures
+returns-then-is_none c = rw c.zero.ensures (get_none items _ _ (eqb-true _ _ (sym c.is_none.ensures ∙ c.if-is_none.true)))

@@ -1,0 +1,14 @@
+use Rattle.numbers.specs.Library.{sym, ◌∙◌, arith}
+use Rattle.rows.specs.Row.{put_none, put-short, put_part}
+use Rattle.rows.proofs.row.Row.put.Goals as goal
+
+pub returns-then-row : goal.returns-then-row
+returns-then-row g c = put_none g.Self.Row.shape _ _ _ (sym c.number-row.ensures ∙ c.if-row.true)
+
+pub returns-then-table-end : goal.returns-then-table-end
+returns-then-table-end g c = put-short g.Self.Row.shape _ _ _ (rw (← c.number-row.ensures, g.met.Self.Row.wide ∙ sym c.NUMBERS-width.ensures) (omega arith))
+
+pub returns : goal.returns
+returns g c =
+    rw (c.write.ensures, c.number-row.ensures, c.NUMBERS-width.ensures ∙ sym g.met.Self.Row.wide)
+    (put_part g.Self.Row.shape _ _ _ (rw (← c.number-row.ensures) (omega arith)) (rw (← c.number-row.ensures, g.met.Self.Row.wide ∙ sym c.NUMBERS-width.ensures) (omega arith)))
