@@ -8,7 +8,7 @@ use Rattle.pool.specs.Pool.{new_item, item_taken}
 use Rattle.rows.specs.declared.header.Header.{Header}
 use Rattle.plan.specs.declared.Plan.{Plan}
 use Rattle.wrap.specs.Wrap.{plus32}
-use Rattle.shelf_edits.specs.State.{State}
+use Rattle.rows.specs.State.{State}
 use Rattle.item_edits.specs.ItemEdits.{mark_live, unlist_row, relist, split_item, first_after}
 use Rattle.shelf_edits.specs.ShelfEdits.{with_free, split_shelf}
 

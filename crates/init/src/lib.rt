@@ -8,8 +8,8 @@ use numbers::index::{ItemIndex, ShelfIndex};
 use numbers::limits::Limits;
 use rows::header::Header;
 use rows::item::ItemRow;
+use rows::row::Row;
 use rows::shelf::ShelfRow;
-use rows::{header, item, shelf};
 
 // The shelf before shelf k.
 fn shelf_before(k: u16) -> ShelfIndex
@@ -35,28 +35,26 @@ fn shelf_after(n: u16, k: u16) -> ShelfIndex
 pub fn fresh_shelf(limits: Limits, n: u16, k: u16) -> ShelfRow
     ensures { result ≡ fresh_shelf_row limits n k }
 {
-    let prev = shelf_before(k);
-    let next = shelf_after(n, k);
-    let first = ItemIndex(k);
-    let mut s = shelf::no_shelf();
-    s.x = wrap::mul_u16(k, limits.shelf_width);
-    s.height = limits.height;
-    s.prev = prev;
-    s.next = next;
-    s.first_item = first;
-    s.first_unallocated = first;
-    s.is_empty = 1;
-    s
+    ShelfRow {
+        x: k.wrapping_mul(limits.shelf_width),
+        y: 0,
+        height: limits.height,
+        prev: shelf_before(k),
+        next: shelf_after(n, k),
+        first_item: ItemIndex(k),
+        first_unallocated: ItemIndex(k),
+        is_empty: 1,
+    }
 }
 
 pub fn fresh_item(limits: Limits, k: u16) -> ItemRow
     ensures { result ≡ fresh_item_row limits k }
 {
-    let on = ShelfIndex(k);
-    let x = wrap::mul_u16(k, limits.shelf_width);
-    let mut v = item_edits::lone_item(x, limits.shelf_width, on);
-    v.generation = 1;
-    v
+    let x = k.wrapping_mul(limits.shelf_width);
+    ItemRow {
+        generation: 1,
+        ..item_edits::lone_item(x, limits.shelf_width, ShelfIndex(k))
+    }
 }
 
 // Rows 0 to n - 1 of both tables hold the n fresh shelves and their items.
@@ -64,13 +62,9 @@ pub fn init(shelves: &mut [u16], items: &mut [u16], limits: Limits, n: u16)
     ensures { (shelves.new ≡ fresh_shelf_table limits n shelves.old)
         × (items.new ≡ fresh_item_table limits n items.old) }
 {
-    let mut k: u16 = 0;
-    while k < n {
-        let on = ShelfIndex(k);
-        shelf::put_shelf(shelves, on, fresh_shelf(limits, n, k));
-        let at = ItemIndex(k);
-        item::put_item(items, at, fresh_item(limits, k));
-        k += 1;
+    for k in 0..n {
+        fresh_shelf(limits, n, k).put(shelves, ShelfIndex(k));
+        fresh_item(limits, k).put(items, ItemIndex(k));
     }
 }
 
@@ -78,13 +72,12 @@ pub fn init(shelves: &mut [u16], items: &mut [u16], limits: Limits, n: u16)
 pub fn fresh_header(limits: Limits, n: u16) -> Header
     ensures { result ≡ fresh_header limits n }
 {
-    let no_item = ItemIndex::NONE;
-    let no_shelf = ShelfIndex::NONE;
-    let mut h = header::no_header();
-    h.limits = limits;
-    h.used_shelves = n;
-    h.used_items = n;
-    h.free_items = no_item;
-    h.free_shelves = no_shelf;
-    h
+    Header {
+        limits,
+        used_shelves: n,
+        used_items: n,
+        free_items: ItemIndex::NONE,
+        free_shelves: ShelfIndex::NONE,
+        occupied: 0,
+    }
 }

@@ -2,101 +2,105 @@
 #![tactic(auto)]
 
 ghost use Rattle.std.specs.Prelude.{◌≡◌};
+ghost use Rattle.std.specs.Fn.{FnOnceReturnsAtMut};
 ghost use Rattle.rows.specs.Prelude.{item_capacity, item_at, change_item, with_item_prev, with_prev_free, with_next_free, Below, Linked};
+ghost use Rattle.rows.specs.declared.item.ItemRow.{ItemRow};
 ghost use Rattle.pool.specs.Pool.{added_item, item_freed};
 ghost use Rattle.item_edits.specs.ItemEdits.{with_links, with_span, mark_live, mark_free, lone_item, unlist_row, unlist, relist, enlist, first_after, rest_of, split_item};
 ghost use Rattle.item_edits.specs.ItemEdits.{join_next};
 
 use numbers::index::{ItemIndex, ShelfIndex};
-use pool::AddedItem;
+use pool::Added;
 use rows::header::Header;
 use rows::item;
 use rows::item::ItemRow;
+use rows::row::Row;
 
 // ---- one row changed, or none where the link names none
+
+// The row is what f makes of it.
+fn change<F: FnOnce(&mut ItemRow)>(items: &mut [u16], at: ItemIndex, f: F)
+    requires { Below (item_capacity items.old) at.0 × F.IsAlwaysCallable f }
+    ensures { (g : ItemRow → ItemRow) → ((v r : ItemRow) → FnOnceReturnsAtMut F.FnOnce f v tt r → r ≡ g v) → items.new ≡ change_item items.old at g }
+{
+    let mut v = item::linked_item(items, at);
+    f(&mut v);
+    item::put_linked_item(items, at, v);
+}
 
 pub fn set_prev(items: &mut [u16], at: ItemIndex, prev: ItemIndex)
     requires { Below (item_capacity items.old) at.0 }
     ensures { items.new ≡ change_item items.old at (with_item_prev prev) }
 {
-    let mut v = item::linked_item(items, at);
-    v.prev = prev;
-    item::put_linked_item(items, at, v);
+    change(items, at, |v| v.prev = prev);
 }
 
 pub fn set_prev_unallocated(items: &mut [u16], at: ItemIndex, prev: ItemIndex)
     requires { Below (item_capacity items.old) at.0 }
     ensures { items.new ≡ change_item items.old at (with_prev_free prev) }
 {
-    let mut v = item::linked_item(items, at);
-    v.prev_unallocated = prev;
-    item::put_linked_item(items, at, v);
+    change(items, at, |v| v.prev_unallocated = prev);
 }
 
 pub fn set_next_unallocated(items: &mut [u16], at: ItemIndex, next: ItemIndex)
     requires { Below (item_capacity items.old) at.0 }
     ensures { items.new ≡ change_item items.old at (with_next_free next) }
 {
-    let mut v = item::linked_item(items, at);
-    v.next_unallocated = next;
-    item::put_linked_item(items, at, v);
+    change(items, at, |v| v.next_unallocated = next);
 }
 
 pub fn set_links(items: &mut [u16], at: ItemIndex, prev: ItemIndex, next: ItemIndex)
     requires { Below (item_capacity items.old) at.0 }
     ensures { items.new ≡ change_item items.old at (with_links prev next) }
 {
-    let mut v = item::linked_item(items, at);
-    v.prev_unallocated = prev;
-    v.next_unallocated = next;
-    item::put_linked_item(items, at, v);
+    change(items, at, |v| {
+        v.prev_unallocated = prev;
+        v.next_unallocated = next;
+    });
 }
 
 pub fn set_span(items: &mut [u16], at: ItemIndex, width: u16, next: ItemIndex)
     requires { Below (item_capacity items.old) at.0 }
     ensures { items.new ≡ change_item items.old at (with_span width next) }
 {
-    let mut v = item::linked_item(items, at);
-    v.width = width;
-    v.next = next;
-    item::put_linked_item(items, at, v);
+    change(items, at, |v| {
+        v.width = width;
+        v.next = next;
+    });
 }
 
 pub fn mark_live(items: &mut [u16], at: ItemIndex)
     requires { Below (item_capacity items.old) at.0 }
     ensures { items.new ≡ change_item items.old at mark_live }
 {
-    let none = ItemIndex::NONE;
-    let mut v = item::linked_item(items, at);
-    v.prev_unallocated = none;
-    v.next_unallocated = none;
-    v.allocated = 1;
-    item::put_linked_item(items, at, v);
+    change(items, at, |v| {
+        v.prev_unallocated = ItemIndex::NONE;
+        v.next_unallocated = ItemIndex::NONE;
+        v.allocated = 1;
+    });
 }
 
 pub fn mark_free(items: &mut [u16], at: ItemIndex)
     requires { Below (item_capacity items.old) at.0 }
     ensures { items.new ≡ change_item items.old at mark_free }
 {
-    let mut v = item::linked_item(items, at);
-    v.allocated = 0;
-    item::put_linked_item(items, at, v);
+    change(items, at, |v| v.allocated = 0);
 }
 
 // A free item that has its shelf to itself.
 pub fn lone_item(x: u16, width: u16, shelf: ShelfIndex) -> ItemRow
     ensures { result ≡ lone_item x width shelf }
 {
-    let none = ItemIndex::NONE;
-    let mut v = item::no_item();
-    v.x = x;
-    v.width = width;
-    v.prev = none;
-    v.next = none;
-    v.prev_unallocated = none;
-    v.next_unallocated = none;
-    v.shelf = shelf;
-    v
+    ItemRow {
+        x,
+        width,
+        prev: ItemIndex::NONE,
+        next: ItemIndex::NONE,
+        prev_unallocated: ItemIndex::NONE,
+        next_unallocated: ItemIndex::NONE,
+        shelf,
+        ..ItemRow::zero()
+    }
 }
 
 // ---- a shelf's free list
@@ -145,7 +149,7 @@ pub fn enlist(items: &mut [u16], first: ItemIndex, at: ItemIndex)
 pub fn first_after(first: ItemIndex, at: ItemIndex, new: ItemIndex) -> ItemIndex
     ensures { result ≡ first_after first at new }
 {
-    if first.0 == at.0 {
+    if first == at {
         return new;
     }
     first
@@ -157,16 +161,23 @@ pub fn first_after(first: ItemIndex, at: ItemIndex, new: ItemIndex) -> ItemIndex
 pub fn rest_of(i: ItemRow, at: ItemIndex, width: u16) -> ItemRow
     ensures { result ≡ rest_of i at width }
 {
-    let mut v = i;
-    v.x = wrap::add_u16(i.x, width);
-    v.width = wrap::sub_u16(i.width, width);
-    v.prev = at;
-    v.allocated = 0;
-    v
+    ItemRow {
+        x: i.x.wrapping_add(width),
+        width: i.width.wrapping_sub(width),
+        prev: at,
+        allocated: 0,
+        ..i
+    }
 }
 
 // Item i, which lies in row `at`, keeps `width`; the rest, free, goes into a new row.
-pub fn split_item(h: Header, items: &mut [u16], at: ItemIndex, i: ItemRow, width: u16) -> AddedItem
+pub fn split_item(
+    h: Header,
+    items: &mut [u16],
+    at: ItemIndex,
+    i: ItemRow,
+    width: u16,
+) -> Added<ItemIndex>
     requires { Below (item_capacity items.old) at.0 × Linked (item_capacity items.old) i }
     ensures { (result ≡ added_item items.old h) × (items.new ≡ split_item h items.old at i width) }
 {
@@ -188,7 +199,7 @@ pub fn join_next(h: Header, items: &mut [u16], at: ItemIndex) -> Header
     let next = v.next;
     let n = item::linked_item(items, next);
     let after = n.next;
-    set_span(items, at, wrap::add_u16(v.width, n.width), after);
+    set_span(items, at, v.width.wrapping_add(n.width), after);
     set_prev(items, after, at);
     pool::remove_item(h, items, next)
 }

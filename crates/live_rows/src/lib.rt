@@ -9,8 +9,8 @@ use numbers::index::ItemIndex;
 use rows::header::Header;
 use rows::item::ItemRow;
 use rows::live::Live;
+use rows::row::Row;
 use rows::shelf::ShelfRow;
-use rows::{item, shelf};
 
 // The row is used, and holds a live item of this generation.
 pub fn is_live(h: Header, items: &[u16], row: u16, generation: u16) -> bool
@@ -20,20 +20,16 @@ pub fn is_live(h: Header, items: &[u16], row: u16, generation: u16) -> bool
     if h.used_items <= row {
         return false;
     }
-    let at = ItemIndex(row);
-    let v = item::item_there(items, at);
-    if v.allocated != 1 {
-        return false;
-    }
-    v.generation == generation
+    let v = ItemRow::there(items, ItemIndex(row));
+    v.allocated == 1 && v.generation == generation
 }
 
 // The id of item i, which lies in this row on shelf s, and its rectangle.
 pub fn live_of_rows(h: Header, s: ShelfRow, i: ItemRow, row: u16) -> Live
     ensures { result ≡ live_of_rows h s i row }
 {
-    let along = wrap::add_u16(i.x, i.width);
-    let deep = wrap::add_u16(s.y, s.height);
+    let along = i.x.wrapping_add(i.width);
+    let deep = s.y.wrapping_add(s.height);
     if h.limits.vertical == 1 {
         return Live {
             row,
@@ -59,16 +55,14 @@ pub fn live_of_item(h: Header, shelves: &[u16], i: ItemRow, row: u16) -> Live
     requires { i.shelf.0 < shelf_capacity shelves.now }
     ensures { result ≡ live_of_rows h (shelf_at_of shelves.now i.shelf) i row }
 {
-    let on = i.shelf;
-    live_of_rows(h, shelf::shelf_there(shelves, on), i, row)
+    live_of_rows(h, ShelfRow::there(shelves, i.shelf), i, row)
 }
 
 pub fn live_at(h: Header, shelves: &[u16], items: &[u16], row: u16) -> Live
     requires { (row < item_capacity items.now) × ((item_at items.now (record { 0 = row })).shelf.0 < shelf_capacity shelves.now) }
     ensures { result ≡ live_at h shelves.now items.now row }
 {
-    let at = ItemIndex(row);
-    let i = item::item_there(items, at);
+    let i = ItemRow::there(items, ItemIndex(row));
     live_of_item(h, shelves, i, row)
 }
 
@@ -77,9 +71,8 @@ pub fn area_at(shelves: &[u16], items: &[u16], at: ItemIndex) -> u32
     requires { (at.0 < item_capacity items.now) × ((item_at items.now at).shelf.0 < shelf_capacity shelves.now) }
     ensures { result ≡ area_at shelves.now items.now at }
 {
-    let i = item::item_there(items, at);
-    let on = i.shelf;
-    let s = shelf::shelf_there(shelves, on);
+    let i = ItemRow::there(items, at);
+    let s = ShelfRow::there(shelves, i.shelf);
     wrap::area(i.width, s.height)
 }
 
@@ -95,12 +88,8 @@ fn live_one(items: &[u16], row: u16) -> u16
     requires { row < item_capacity items.now }
     ensures { result ≡ live_one items.now row }
 {
-    let at = ItemIndex(row);
-    let v = item::item_there(items, at);
-    if v.allocated == 1 {
-        return 1;
-    }
-    0
+    let v = ItemRow::there(items, ItemIndex(row));
+    u16::from(v.allocated == 1)
 }
 
 // How many used rows are live.
@@ -109,10 +98,8 @@ pub fn live_count(items: &[u16], used: u16) -> u16
     ensures { result ≡ live_count items.now used }
 {
     let mut count: u16 = 0;
-    let mut row: u16 = 0;
-    while row < used {
+    for row in 0..used {
         count += live_one(items, row);
-        row += 1;
     }
     count
 }

@@ -7,7 +7,7 @@ use Rattle.rows.specs.Prelude.{with_occupied, item_at, shelf_at_of, change_shelf
 use Rattle.rows.specs.declared.header.Header.{Header}
 use Rattle.rules.specs.Prelude.{flag}
 use Rattle.wrap.specs.Wrap.{minus32}
-use Rattle.shelf_edits.specs.State.{State}
+use Rattle.rows.specs.State.{State}
 use Rattle.shelf_edits.specs.ShelfEdits.{with_free, merge_shelves}
 use Rattle.search.specs.Search.{shelf_is_empty}
 use Rattle.live_rows.specs.Live.{area_at}

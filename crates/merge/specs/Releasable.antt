@@ -5,7 +5,7 @@ use Rattle.numbers.specs.Library.{ℕ, refl, inl, List}
 use Rattle.numbers.specs.declared.{index.ItemIndex.ItemIndex, index.ShelfIndex.ShelfIndex}
 use Rattle.rows.specs.Prelude.{with_occupied, item_capacity, item_at, shelf_capacity, shelf_at_of, Below, LinksWithin, below_there}
 use Rattle.rows.specs.declared.header.Header.{Header}
-use Rattle.shelf_edits.specs.State.{state}
+use Rattle.rows.specs.State.{state}
 use Rattle.merge_items.specs.LooseIn.{Loosens, LooseIn, loosen_in}
 use Rattle.merge.specs.Merge.{with_area_removed, loosened}
 

@@ -3,7 +3,6 @@
 
 ghost use Rattle.std.specs.Prelude.{◌≡◌};
 ghost use Rattle.rows.specs.Prelude.{item_capacity, Below};
-ghost use Rattle.rules.specs.Prelude.{flag};
 ghost use Rattle.merge_items.specs.LooseIn.{Loosens};
 ghost use Rattle.merge_items.specs.MergeItems.{loose, AreLoose, is_free_item, absorb_next, merge_next, merge_into, loosen, one_free_of};
 
@@ -23,11 +22,7 @@ fn is_free_item(items: &[u16], at: ItemIndex) -> bool
     requires { Below (item_capacity items.now) at.0 }
     ensures { result ≡ is_free_item items.now at }
 {
-    if at.is_none() {
-        return false;
-    }
-    let v = item::linked_item(items, at);
-    v.allocated == 0
+    !at.is_none() && item::linked_item(items, at).allocated == 0
 }
 
 // The next item leaves the free list and is merged into this one.
@@ -90,18 +85,11 @@ pub fn loosen(h: Header, items: &mut [u16], first: ItemIndex, at: ItemIndex) -> 
     merge_into(header, items, front, at)
 }
 
-// 1 where the item is free and has no next, else 0: as a shelf's first item, it is then the only one, and the shelf is empty.
-pub fn empty_flag(items: &[u16], first: ItemIndex) -> u16
+// The item is free and has no next: as a shelf's first item, it is then the only one, and the shelf is empty.
+pub fn is_one_free(items: &[u16], first: ItemIndex) -> bool
     requires { Below (item_capacity items.now) first.0 }
-    ensures { result ≡ flag (one_free_of items.now first) }
+    ensures { result ≡ one_free_of items.now first }
 {
     let v = item::linked_item(items, first);
-    let next = v.next;
-    if v.allocated != 0 {
-        return 0;
-    }
-    if next.is_none() {
-        return 1;
-    }
-    0
+    v.allocated == 0 && v.next.is_none()
 }

@@ -14,8 +14,8 @@ use numbers::request::Asked;
 use rows::header::Header;
 use rows::item::ItemRow;
 use rows::live::Live;
+use rows::row::Row;
 use rows::shelf::ShelfRow;
-use rows::{item, shelf};
 use search::Place;
 
 // What a grant writes, decided before it writes: `width` and `depth` are those of the rectangle, and `live` is what is told of it.
@@ -38,21 +38,14 @@ pub struct Plan {
 fn unused(capacity: u16, used: u16) -> u32
     ensures { result ≡ capacity - used }
 {
-    if capacity <= used {
-        return 0;
-    }
-    (capacity - used) as u32
+    u32::from(capacity.saturating_sub(used))
 }
 
 // The freed shelf rows, as far as they are asked for: one.
 fn freed_shelves(h: Header) -> u32
     ensures { result ≡ freed_shelves h }
 {
-    let head = h.free_shelves;
-    if head.is_none() {
-        return 0;
-    }
-    1
+    u32::from(!h.free_shelves.is_none())
 }
 
 // The freed item rows, as far as they are asked for: two.
@@ -63,9 +56,8 @@ fn freed_items(h: Header, items: &[u16]) -> u32
     if head.is_none() {
         return 0;
     }
-    let v = item::get_item(items, head);
-    let next = v.next;
-    if next.is_none() {
+    let v = ItemRow::get(items, head);
+    if v.next.is_none() {
         return 1;
     }
     2
@@ -74,26 +66,14 @@ fn freed_items(h: Header, items: &[u16]) -> u32
 fn spare_shelves(h: Header, shelves: &[u16]) -> u32
     ensures { result ≡ spare_shelves h shelves.now }
 {
-    unused(shelf::shelf_capacity(shelves), h.used_shelves) + freed_shelves(h)
-}
-
-fn count(split: bool) -> u32
-    ensures { result ≡ count split }
-{
-    if split {
-        return 1;
-    }
-    0
+    unused(ShelfRow::capacity(shelves), h.used_shelves) + freed_shelves(h)
 }
 
 // A shelf split takes a shelf row. Where there is none, no row is counted.
 fn enough_shelves(h: Header, shelves: &[u16], split: bool) -> bool
     ensures { result ≡ leb (count split) (spare_shelves h shelves.now) }
 {
-    if !split {
-        return true;
-    }
-    1 <= spare_shelves(h, shelves)
+    !split || 1 <= spare_shelves(h, shelves)
 }
 
 // A shelf split takes a row of each table, an item split an item row. Freed item rows are counted only where the unused ones are too few.
@@ -109,12 +89,9 @@ pub fn enough_rows(
     if !enough_shelves(h, shelves, shelf_split) {
         return false;
     }
-    let needed = count(shelf_split) + count(item_split);
-    let never_used = unused(item::item_capacity(items), h.used_items);
-    if needed <= never_used {
-        return true;
-    }
-    needed <= never_used + freed_items(h, items)
+    let needed = u32::from(shelf_split) + u32::from(item_split);
+    let never_used = unused(ItemRow::capacity(items), h.used_items);
+    needed <= never_used || needed <= never_used + freed_items(h, items)
 }
 
 // ---- the plan
@@ -123,10 +100,7 @@ pub fn enough_rows(
 pub fn splits_shelf(asked: Asked, s: ShelfRow) -> bool
     ensures { result ≡ splits_shelf asked s }
 {
-    if s.is_empty != 1 {
-        return false;
-    }
-    fit::splits_shelf(asked.depth, s.height)
+    s.is_empty == 1 && fit::splits_shelf(asked.depth, s.height)
 }
 
 pub fn splits_item(asked: Asked, i: ItemRow) -> bool
@@ -149,11 +123,12 @@ fn granted_side(split: bool, asked: u16, whole: u16) -> u16
 fn told(h: Header, s: ShelfRow, i: ItemRow, row: u16, width: u16, depth: u16) -> Live
     ensures { result ≡ told h s i row width depth }
 {
-    let mut shelf = s;
-    shelf.height = depth;
-    let mut item = i;
-    item.width = width;
-    live_rows::live_of_rows(h, shelf, item, row)
+    live_rows::live_of_rows(
+        h,
+        ShelfRow { height: depth, ..s },
+        ItemRow { width, ..i },
+        row,
+    )
 }
 
 // The plan at a place whose two rows are there: each is read once.
@@ -163,8 +138,8 @@ pub fn plan_at(h: Header, shelves: &[u16], items: &[u16], p: Place, asked: Asked
 {
     let shelf = p.shelf;
     let item = p.item;
-    let shelf_row = shelf::shelf_there(shelves, shelf);
-    let item_row = item::item_there(items, item);
+    let shelf_row = ShelfRow::there(shelves, shelf);
+    let item_row = ItemRow::there(items, item);
     let shelf_split = splits_shelf(asked, shelf_row);
     let item_split = splits_item(asked, item_row);
     let width = granted_side(item_split, asked.width, item_row.width);
@@ -187,14 +162,8 @@ pub fn plan_at(h: Header, shelves: &[u16], items: &[u16], p: Place, asked: Asked
 pub fn has_rows(h: Header, shelves: &[u16], items: &[u16], p: Plan) -> bool
     ensures { result ≡ has_rows h shelves.now items.now p }
 {
-    if !p.shelf_split {
-        if !p.item_split {
-            return true;
-        }
-        let head = h.free_items;
-        if !head.is_none() {
-            return true;
-        }
+    if !p.shelf_split && (!p.item_split || !h.free_items.is_none()) {
+        return true;
     }
     enough_rows(h, shelves, items, p.shelf_split, p.item_split)
 }

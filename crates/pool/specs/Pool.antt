@@ -5,7 +5,7 @@ use Rattle.numbers.specs.Library.{List, ℕ, eqb}
 use Rattle.numbers.specs.Prelude.{pick, no_row}
 use Rattle.numbers.specs.declared.{index.ItemIndex.ItemIndex, index.ShelfIndex.ShelfIndex}
 use Rattle.rows.specs.declared.{header.Header.Header, item.ItemRow.ItemRow, shelf.ShelfRow.ShelfRow}
-use Rattle.pool.specs.declared.{AddedItem.AddedItem, AddedShelf.AddedShelf}
+use Rattle.pool.specs.declared.Added.{Added}
 use Rattle.rows.specs.Prelude.{with_used_items, with_used_shelves, with_free_items, with_free_shelves, zero_item, item_at, put_item, with_item_next, with_generation}
 use Rattle.rows.specs.Prelude.{zero_shelf, shelf_at_of, put_shelf, with_shelf_next}
 
@@ -44,7 +44,7 @@ item_taken l h =
     with_used_items (used_after h.free_items.0 h.used_items)
     (with_free_items (record { 0 = head_after h.free_items.0 (item_at l h.free_items).next.0 }) h)
 
-unfoldable pub added_item : List ℕ → Header → AddedItem
+unfoldable pub added_item : List ℕ → Header → Added ItemIndex
 added_item l h = record { idx = new_item h; header = item_taken l h }
 
 -- a freed row holds zero but for next and generation; it becomes the latest freed one
@@ -73,7 +73,7 @@ shelf_taken l h =
     with_used_shelves (used_after h.free_shelves.0 h.used_shelves)
     (with_free_shelves (record { 0 = head_after h.free_shelves.0 (shelf_at_of l h.free_shelves).next.0 }) h)
 
-unfoldable pub added_shelf : List ℕ → Header → AddedShelf
+unfoldable pub added_shelf : List ℕ → Header → Added ShelfIndex
 added_shelf l h = record { idx = new_shelf h; header = shelf_taken l h }
 
 unfoldable pub freed_shelf_row : ShelfIndex → ShelfRow

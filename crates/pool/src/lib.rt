@@ -8,25 +8,20 @@ ghost use Rattle.numbers.specs.Prelude.{Decides};
 
 use numbers::index::{ItemIndex, ShelfIndex};
 use rows::header::Header;
+use rows::item;
 use rows::item::ItemRow;
+use rows::row::Row;
 use rows::shelf::ShelfRow;
-use rows::{item, shelf};
 
 // The row that was taken, and the header after it.
 #[derive(Clone, Copy)]
-pub struct AddedItem {
-    pub idx: ItemIndex,
-    pub header: Header,
-}
-
-#[derive(Clone, Copy)]
-pub struct AddedShelf {
-    pub idx: ShelfIndex,
+pub struct Added<I> {
+    pub idx: I,
     pub header: Header,
 }
 
 // A row for v: the latest freed one, with its generation plus one, or the next unused one, with generation 1.
-pub fn add_item(h: Header, items: &mut [u16], v: ItemRow) -> AddedItem
+pub fn add_item(h: Header, items: &mut [u16], v: ItemRow) -> Added<ItemIndex>
     ensures { (result ≡ added_item items.old h) × (items.new ≡ add_item items.old h v) }
 {
     let mut header = h;
@@ -35,50 +30,50 @@ pub fn add_item(h: Header, items: &mut [u16], v: ItemRow) -> AddedItem
     if head.is_none() {
         let idx = ItemIndex(h.used_items);
         w.generation = 1;
-        item::put_item(items, idx, w);
-        header.used_items = std::num::wrapping_add_u16(h.used_items, 1);
-        return AddedItem { idx, header };
+        w.put(items, idx);
+        header.used_items = h.used_items.wrapping_add(1);
+        return Added { idx, header };
     }
-    let old = item::get_item(items, head);
-    w.generation = std::num::wrapping_add_u16(old.generation, 1);
-    item::put_item(items, head, w);
+    let old = ItemRow::get(items, head);
+    w.generation = old.generation.wrapping_add(1);
+    w.put(items, head);
     let next = old.next;
     header.free_items = next;
-    AddedItem { idx: head, header }
+    Added { idx: head, header }
 }
 
 // Row idx becomes the latest freed one: zero but for the one freed before it and its generation.
 pub fn remove_item(h: Header, items: &mut [u16], idx: ItemIndex) -> Header
     ensures { (result ≡ item_freed h idx) × (items.new ≡ remove_item items.old h idx) }
 {
-    let old = item::get_item(items, idx);
-    let mut v = item::no_item();
+    let old = ItemRow::get(items, idx);
+    let mut v = ItemRow::zero();
     let next = h.free_items;
     v.next = next;
     v.generation = old.generation;
-    item::put_item(items, idx, v);
+    v.put(items, idx);
     let mut header = h;
     header.free_items = idx;
     header
 }
 
 // A row for v: the latest freed one, or the next unused one.
-pub fn add_shelf(h: Header, shelves: &mut [u16], v: ShelfRow) -> AddedShelf
+pub fn add_shelf(h: Header, shelves: &mut [u16], v: ShelfRow) -> Added<ShelfIndex>
     ensures { (result ≡ added_shelf shelves.old h) × (shelves.new ≡ add_shelf shelves.old h v) }
 {
     let mut header = h;
     let head = h.free_shelves;
     if head.is_none() {
         let idx = ShelfIndex(h.used_shelves);
-        shelf::put_shelf(shelves, idx, v);
-        header.used_shelves = std::num::wrapping_add_u16(h.used_shelves, 1);
-        return AddedShelf { idx, header };
+        v.put(shelves, idx);
+        header.used_shelves = h.used_shelves.wrapping_add(1);
+        return Added { idx, header };
     }
-    let old = shelf::get_shelf(shelves, head);
-    shelf::put_shelf(shelves, head, v);
+    let old = ShelfRow::get(shelves, head);
+    v.put(shelves, head);
     let next = old.next;
     header.free_shelves = next;
-    AddedShelf { idx: head, header }
+    Added { idx: head, header }
 }
 
 // The row of the shelf's first item becomes the latest freed item row, and row idx the latest freed shelf row, zero but for next.
@@ -87,13 +82,13 @@ pub fn remove_shelf(h: Header, shelves: &mut [u16], items: &mut [u16], idx: Shel
         × (shelves.new ≡ remove_shelf shelves.old h idx)
         × (items.new ≡ remove_shelf_item shelves.old items.old h idx) }
 {
-    let old = shelf::get_shelf(shelves, idx);
+    let old = ShelfRow::get(shelves, idx);
     let first = old.first_item;
     let mut header = remove_item(h, items, first);
-    let mut v = shelf::no_shelf();
+    let mut v = ShelfRow::zero();
     let next = h.free_shelves;
     v.next = next;
-    shelf::put_shelf(shelves, idx, v);
+    v.put(shelves, idx);
     header.free_shelves = idx;
     header
 }

@@ -1,6 +1,6 @@
 pub mod Tests
 pub mod FreeList
 pub mod ToTry
-pub mod InUse
+pub mod Answered
 pub mod Skipping
 pub mod ShelfTurns

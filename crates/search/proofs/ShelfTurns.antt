@@ -1,7 +1,8 @@
 -- The walk of the shelf chain, turn by turn: how the loop's numbers come to carry what the definition holds. Assumes nothing.
-use Rattle.std.specs.Prelude.{◌<◌, ◌≤◌, ◌≡◌, ◌≢◌}
+use Rattle.std.specs.Prelude.{◌<◌, ◌≤◌, ◌≡◌, ◌≢◌, Option, None, Some}
+use Rattle.std.specs.Option.{is_some}
 use Rattle.numbers.specs.Library.{ℕ, refl, sym, ap, ◌∙◌, Bool, true, false, not, List, arith, length, eq-eqb, ne_eqb}
-use Rattle.numbers.specs.Prelude.{pick, no_row, no_shelf, no_item, good_fit_to}
+use Rattle.numbers.specs.Prelude.{pick, no_row, good_fit_to}
 use Rattle.numbers.specs.declared.{index.ItemIndex.ItemIndex, request.Asked.Asked}
 use Rattle.rows.specs.Prelude.{rows, get, rows_few, items, shelves}
 use Rattle.rows.specs.declared.{header.Header.Header, shelf.ShelfRow.ShelfRow}
@@ -12,7 +13,6 @@ use Rattle.search.specs.declared.Place.{Place}
 use Rattle.search.specs.Search.{Held, nothing, good, bad, place_of, first_wide, is_bad_fit, skipped, tried, looked, is_exact, walk, search}
 use Rattle.search.specs.Search.{shallower_than, skipped_by, PastSkipped, start, past}
 use Rattle.search.specs.Walkable.{WalkableFrom, Walkable}
-use Rattle.search.proofs.InUse.{InUse, few_shelves, few_items, looked_in_use}
 use Rattle.search.proofs.Tests.{fails, holds}
 use Rattle.search.proofs.ToTry.{chain_from}
 use Rattle.search.proofs.Skipping.{skips_so, bad_first, exact_fits}
@@ -22,6 +22,10 @@ use Rattle.search.proofs.Skipping.{skips_so, bad_first, exact_fits}
 -- the chain, among the rows that the table has
 pub chain_there : {h : Header} {S I : List ℕ} {at : ℕ} → WalkableFrom h S I at → EndsFrom (shelf_next S) (rows shelves S) at
 chain_there {h} {S} {I} {at} w = ends_among (shelf_next S) h.used_shelves (rows shelves S) w.shelves_fit (rows_few shelves S) at w.chain_ends
+
+-- the used rows are few enough that none of them is no row
+few_shelves : {h : Header} {S I : List ℕ} {at : ℕ} → WalkableFrom h S I at → h.used_shelves ≤ no_row
+few_shelves {h} {S} {I} {at} w = omega (arith, w.shelves_fit, rows_few shelves S)
 
 module _ {h : Header} {S I : List ℕ} {at : ℕ} (w : WalkableFrom h S I at) (some : at ≢ no_row) where
   on : Onward (shelf_next S) h.used_shelves (few_shelves w) at
@@ -55,20 +59,19 @@ module _ {h : Header} {S I : List ℕ} {at : ℕ} (w : WalkableFrom h S I at) (s
 
 -- The loop has come to the shelf in row `at`, and carries this depth and this place for what is held, which is no exact fit; the rest of the chain leads to
 -- what the whole search holds.
-pub record AtShelf (h : Header) (S I : List ℕ) (q : Asked) (at below : ℕ) (p : Place) : Type 0 where
+pub record AtShelf (h : Header) (S I : List ℕ) (q : Asked) (at below : ℕ) (p : Option Place) : Type 0 where
   pub ahead : WalkableFrom h S I at
   pub held : Held
-  pub in_use : InUse h held
   pub inexact : is_exact q held ≡ false
   pub bound : below ≡ shallower_than held
   pub place : p ≡ place_of held
   pub same : search h S I q ≡ walk S I h.used_items q held (rows_from (shelf_next S) h.used_shelves at)
 
-pub begins : {h : Header} {S I : List ℕ} {q : Asked} → Walkable h S I → AtShelf h S I q 0 65536 (record { shelf = no_shelf; item = no_item })
-unfolding InUse is_exact shallower_than place_of search
-begins w = record { ahead = w; held = nothing; in_use = tt; inexact = refl; bound = refl; place = refl; same = refl }
+pub begins : {h : Header} {S I : List ℕ} {q : Asked} → Walkable h S I → AtShelf h S I q 0 65536 None
+unfolding is_exact shallower_than place_of search
+begins w = record { ahead = w; held = nothing; inexact = refl; bound = refl; place = refl; same = refl }
 
-module _ {h : Header} {S I : List ℕ} {q : Asked} {at below : ℕ} {p : Place} (turn : AtShelf h S I q at below p) where
+module _ {h : Header} {S I : List ℕ} {q : Asked} {at below : ℕ} {p : Option Place} (turn : AtShelf h S I q at below p) where
   pub ended : at ≡ no_row → p ≡ place_of (search h S I q)
   unfolding walk
   ended e = turn.place ∙ ap place_of (sym (turn.same ∙ ap (walk S I h.used_items q turn.held) (met_end (shelf_next S) h.used_shelves at e)))
@@ -83,29 +86,28 @@ module _ {h : Header} {S I : List ℕ} {q : Asked} {at below : ℕ} {p : Place} 
     step = rw is (turn.same ∙ rw ((on turn.ahead some).rows_are, walk))
 
     -- on to the next shelf, unless it is an exact fit
-    onward : (held : Held) → after ≡ held → is_exact q held ≡ false → (below' : ℕ) → below' ≡ shallower_than held → (p' : Place) → p' ≡ place_of held
+    onward : (held : Held) → after ≡ held → is_exact q held ≡ false → (below' : ℕ) → below' ≡ shallower_than held → (p' : Option Place) → p' ≡ place_of held
         → AtShelf h S I q s.next.0 below' p'
     onward held e inexact below' bound p' place = record {
       ahead = rw is (next_walkable turn.ahead some);
       held = held;
-      in_use = rw (← e) (looked_in_use h I (few_items turn.ahead) q turn.held turn.in_use at (on turn.ahead some).within s (rw is (lists turn.ahead some).0));
       inexact = inexact;
       bound = bound;
       place = place;
       same = step ∙ rw (e, inexact);
     }
 
-    module _ (goodTo : ℕ) (fit : goodTo ≡ good_fit_to q.depth) (short : s.height ≤ 65535) where
+    module _ (goodTo : ℕ) (fit : goodTo ≡ good_fit_to q.depth) (short : s.height ≤ 65535) {holding : Bool} (any : holding ≡ is_some p) where
       -- what the code's numbers tell of the shelf
-      skips : {pass : Bool} → skipped_by q.depth goodTo below p.item (get shelves S at) ≡ pass → skipped q turn.held s ≡ pass
-      skips told = sym (skips_so h (few_items turn.ahead) q s short turn.held turn.in_use) ∙ (rw (turn.bound, turn.place, fit, ← is) at told)
+      skips : {pass : Bool} → skipped_by q.depth goodTo below holding (get shelves S at) ≡ pass → skipped q turn.held s ≡ pass
+      skips told = sym (skips_so q s short turn.held) ∙ (rw (any, turn.bound, turn.place, fit, ← is) at told)
 
-      pub past_skipped : skipped_by q.depth goodTo below p.item (get shelves S at) ≡ true → AtShelf h S I q s.next.0 below p
+      pub past_skipped : skipped_by q.depth goodTo below holding (get shelves S at) ≡ true → AtShelf h S I q s.next.0 below p
       unfolding looked
       past_skipped e = onward turn.held (rw (skips e)) turn.inexact below turn.bound p turn.place
 
       -- `found` is the first item of its free list that is wide enough
-      module _ (e : skipped_by q.depth goodTo below p.item (get shelves S at) ≡ false) (found : ItemIndex)
+      module _ (e : skipped_by q.depth goodTo below holding (get shelves S at) ≡ false) (found : ItemIndex)
           (first : found ≡ first_wide I q.width (rows_from (free_next I) (rows items I) s.first_unallocated.0)) where
         looks : skipped q turn.held s ≡ false
         looks = skips e
@@ -129,38 +131,38 @@ module _ {h : Header} {S I : List ℕ} {q : Asked} {at below : ℕ} {p : Place} 
           unfolding looked tried
           now_bad b = rw (looks, ← first_used, ne_eqb found.0 no_row there, ← fit, b)
 
-          pub exact : s.height ≡ q.depth → here ≡ place_of (search h S I q)
+          pub exact : s.height ≡ q.depth → Some here ≡ place_of (search h S I q)
           unfolding is_exact place_of
           exact e =
               let ends_here : search h S I q ≡ good here s.height = step ∙ rw (now_good (rw fit (exact_fits q.depth s short e)), eq-eqb s.height q.depth e) in
               sym (ap place_of ends_here)
 
           module _ {bad_fit_lem : Bool} (judged : bad_fit_lem ≡ is_bad_fit goodTo s) where
-            pub past_good : s.height ≢ q.depth → not bad_fit_lem ≡ true → AtShelf h S I q s.next.0 s.height here
+            pub past_good : s.height ≢ q.depth → not bad_fit_lem ≡ true → AtShelf h S I q s.next.0 s.height (Some here)
             unfolding is_exact shallower_than place_of
-            past_good other b = onward (good here s.height) (now_good (fails judged b)) (ne_eqb s.height q.depth other) s.height refl here refl
+            past_good other b = onward (good here s.height) (now_good (fails judged b)) (ne_eqb s.height q.depth other) s.height refl (Some here) refl
 
             -- the first bad fit, while nothing is held
-            pub past_bad : not bad_fit_lem ≡ false → AtShelf h S I q s.next.0 below here
+            pub past_bad : not bad_fit_lem ≡ false → AtShelf h S I q s.next.0 below (Some here)
             unfolding is_exact shallower_than place_of
             past_bad b =
                 let none_yet : turn.held ≡ nothing = bad_first q s turn.held looks (rw fit at (holds judged b)) in
-                onward (bad here) (now_bad (holds judged b)) refl below (turn.bound ∙ ap shallower_than none_yet) here refl
+                onward (bad here) (now_bad (holds judged b)) refl below (turn.bound ∙ ap shallower_than none_yet) (Some here) refl
 
 -- ---- to the next shelf to try
 
 -- all the shelves before it are skipped, so that what is held stays
-module _ {h : Header} {S I : List ℕ} {q : Asked} {from below : ℕ} {p : Place} (turn : AtShelf h S I q from below p)
-    (goodTo : ℕ) (fit : goodTo ≡ good_fit_to q.depth) where
-  pub reached : {at : ℕ} → PastSkipped S q.depth goodTo below p.item from at → AtShelf h S I q at below p
+module _ {h : Header} {S I : List ℕ} {q : Asked} {from below : ℕ} {p : Option Place} (turn : AtShelf h S I q from below p)
+    (goodTo : ℕ) (fit : goodTo ≡ good_fit_to q.depth) {holding : Bool} (any : holding ≡ is_some p) where
+  pub reached : {at : ℕ} → PastSkipped S q.depth goodTo below holding from at → AtShelf h S I q at below p
   reached start = turn
-  reached (past at passed some short e) = past_skipped (reached passed) some (get shelves S at) refl goodTo fit short e
+  reached (past at passed some short e) = past_skipped (reached passed) some (get shelves S at) refl goodTo fit short any e
 
-  nearer : {at : ℕ} → PastSkipped S q.depth goodTo below p.item from at → length (chain_from S at) ≤ length (chain_from S from)
+  nearer : {at : ℕ} → PastSkipped S q.depth goodTo below holding from at → length (chain_from S at) ≤ length (chain_from S from)
   nearer start = omega arith
   nearer (past at passed some short e) = omega (arith, nearer passed, shorter (reached passed).ahead some (get shelves S at) refl)
 
   -- past the shelf that is tried, less of the chain is left
-  pub closer : {at : ℕ} → PastSkipped S q.depth goodTo below p.item from at → at ≢ no_row → (s : ShelfRow) → s ≡ get shelves S at
+  pub closer : {at : ℕ} → PastSkipped S q.depth goodTo below holding from at → at ≢ no_row → (s : ShelfRow) → s ≡ get shelves S at
       → length (chain_from S s.next.0) < length (chain_from S from)
   closer passed some s is = omega (arith, nearer passed, shorter (reached passed).ahead some s is)

@@ -1,12 +1,12 @@
--- Whether a shelf is skipped, by the numbers that the code carries as by what is held: no depth is 65536, and an item held is some row. Assumes nothing.
+-- Whether a shelf is skipped, by what the code carries as by what is held: no depth is 65536. Assumes nothing.
 use Rattle.std.specs.Prelude.{◌+◌, ◌/◌, ◌≤◌, ◌≡◌, ◌&&◌, ◌||◌}
-use Rattle.numbers.specs.Library.{ℕ, refl, sym, Bool, true, false, false≢true, not, and-false, min, arith, ltb, lt-leb, le-ltb, ne_eqb}
+use Rattle.std.specs.Option.{is_some}
+use Rattle.numbers.specs.Library.{ℕ, refl, sym, Bool, true, false, false≢true, not, and-false, min, arith, ltb, lt-leb, le-ltb}
 use native.Mathlib.Nat.{le-min}
-use Rattle.numbers.specs.Prelude.{no_row, good_fit_to}
+use Rattle.numbers.specs.Prelude.{good_fit_to}
 use Rattle.numbers.specs.declared.request.Asked.{Asked}
-use Rattle.rows.specs.declared.{header.Header.Header, shelf.ShelfRow.ShelfRow}
+use Rattle.rows.specs.declared.shelf.ShelfRow.{ShelfRow}
 use Rattle.search.specs.Search.{Held, nothing, good, bad, place_of, shelf_is_empty, passed_by, is_bad_fit, holds_any, skipped, shallower_than, skipped_by}
-use Rattle.search.proofs.InUse.{InUse}
 
 none_held : (a b : Bool) → ((a || false) || (b && false)) ≡ (a || (b && false))
 none_held true b = refl
@@ -16,15 +16,12 @@ one_held : (a b : Bool) → ((a || false) || (b && true)) ≡ (a || (b && true))
 one_held true b = refl
 one_held false b = refl
 
-module _ (h : Header) (few : h.used_items ≤ no_row) (q : Asked) (s : ShelfRow) (short : s.height ≤ 65535) where
-  pub skips_so : (held : Held) → InUse h held → skipped_by q.depth (good_fit_to q.depth) (shallower_than held) (place_of held).item s ≡ skipped q held s
-  unfolding skipped_by skipped shallower_than place_of passed_by holds_any InUse
-  skips_so nothing in_use =
-      rw (lt-leb 65536 s.height (omega arith)) (none_held (ltb s.height q.depth) (is_bad_fit (good_fit_to q.depth) s))
-  skips_so (good p depth) in_use = rw (ne_eqb p.item.0 no_row (λ e. omega (arith, in_use.1)))
-  skips_so (bad p) in_use =
-      rw (lt-leb 65536 s.height (omega arith), ne_eqb p.item.0 no_row (λ e. omega (arith, in_use.1)))
-      (one_held (ltb s.height q.depth) (is_bad_fit (good_fit_to q.depth) s))
+module _ (q : Asked) (s : ShelfRow) (short : s.height ≤ 65535) where
+  pub skips_so : (held : Held) → skipped_by q.depth (good_fit_to q.depth) (shallower_than held) (is_some (place_of held)) s ≡ skipped q held s
+  unfolding skipped_by skipped shallower_than place_of passed_by holds_any
+  skips_so nothing = rw (lt-leb 65536 s.height (omega arith)) (none_held (ltb s.height q.depth) (is_bad_fit (good_fit_to q.depth) s))
+  skips_so (good p depth) = refl
+  skips_so (bad p) = rw (lt-leb 65536 s.height (omega arith)) (one_held (ltb s.height q.depth) (is_bad_fit (good_fit_to q.depth) s))
 
 never_both : (a : Bool) → (a || true) ≡ false → ⊥
 never_both true e = false≢true (sym e)

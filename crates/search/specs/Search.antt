@@ -1,7 +1,7 @@
 -- Where a request goes, by reads along the chains: the shelf chain, and the free list of a shelf, as far as used rows are met there. Assumes nothing.
-use Rattle.std.specs.Prelude.{◌≤◌, ◌≡◌, ◌≢◌, ◌⊎◌, ◌&&◌, ◌||◌, ◌∷◌}
+use Rattle.std.specs.Prelude.{◌≤◌, ◌≡◌, ◌≢◌, ◌⊎◌, ◌&&◌, ◌||◌, ◌∷◌, Option, Some, None}
 use Rattle.numbers.specs.Library.{ℕ, Bool, true, false, not, List, [], leb, ltb, eqb}
-use Rattle.numbers.specs.Prelude.{pick, good_fit_to, no_row, no_shelf, no_item}
+use Rattle.numbers.specs.Prelude.{pick, good_fit_to, no_row, no_item}
 use Rattle.numbers.specs.declared.{index.ItemIndex.ItemIndex, request.Asked.Asked}
 use Rattle.rows.specs.Prelude.{get, items, shelves}
 use Rattle.rows.specs.declared.{header.Header.Header, shelf.ShelfRow.ShelfRow}
@@ -16,10 +16,10 @@ pub data Held : Type 0 where
   bad : Place → Held
 
 -- the place that is held, or none
-unfoldable pub place_of : Held → Place
-place_of nothing = record { shelf = no_shelf; item = no_item }
-place_of (good p depth) = p
-place_of (bad p) = p
+unfoldable pub place_of : Held → Option Place
+place_of nothing = None
+place_of (good p depth) = Some p
+place_of (bad p) = Some p
 
 -- this place is held, as a good fit of some depth or as a bad fit
 abbrev pub IsHeld : Place → Held → Type 0
@@ -89,18 +89,18 @@ shallower_than nothing = 65536
 shallower_than (good p depth) = depth
 shallower_than (bad p) = 65536
 
--- whether a shelf is skipped, by that depth and the item held
-unfoldable pub skipped_by : ℕ → ℕ → ℕ → ItemIndex → ShelfRow → Bool
-skipped_by depth goodTo below item s =
-    (ltb s.height depth || leb below s.height) || (is_bad_fit goodTo s && not (eqb item.0 no_row))
+-- whether a shelf is skipped, by that depth and whether a place is held
+unfoldable pub skipped_by : ℕ → ℕ → ℕ → Bool → ShelfRow → Bool
+skipped_by depth goodTo below holding s =
+    (ltb s.height depth || leb below s.height) || (is_bad_fit goodTo s && holding)
 
 -- From row `from` on, the chain leads to row `at` past shelves that are skipped. Each was read, so its depth fits in 16 bits.
-pub data PastSkipped (S : List ℕ) (depth goodTo below : ℕ) (item : ItemIndex) (from : ℕ) : ℕ → Type 0 where
-  start : PastSkipped S depth goodTo below item from from
-  past : (at : ℕ) → PastSkipped S depth goodTo below item from at → at ≢ no_row → (get shelves S at).height ≤ 65535
-      → skipped_by depth goodTo below item (get shelves S at) ≡ true → PastSkipped S depth goodTo below item from (shelf_next S at)
+pub data PastSkipped (S : List ℕ) (depth goodTo below : ℕ) (holding : Bool) (from : ℕ) : ℕ → Type 0 where
+  start : PastSkipped S depth goodTo below holding from from
+  past : (at : ℕ) → PastSkipped S depth goodTo below holding from at → at ≢ no_row → (get shelves S at).height ≤ 65535
+      → skipped_by depth goodTo below holding (get shelves S at) ≡ true → PastSkipped S depth goodTo below holding from (shelf_next S at)
 
 -- Row `at` is the first from `from` on whose shelf is not skipped, or no row where the chain ends before one.
-pub record NextToTry (S : List ℕ) (depth goodTo below : ℕ) (item : ItemIndex) (from at : ℕ) : Type 0 where
-  pub passed : PastSkipped S depth goodTo below item from at
-  pub tried : at ≢ no_row → skipped_by depth goodTo below item (get shelves S at) ≡ false
+pub record NextToTry (S : List ℕ) (depth goodTo below : ℕ) (holding : Bool) (from at : ℕ) : Type 0 where
+  pub passed : PastSkipped S depth goodTo below holding from at
+  pub tried : at ≢ no_row → skipped_by depth goodTo below holding (get shelves S at) ≡ false

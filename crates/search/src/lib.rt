@@ -12,13 +12,14 @@ use numbers::fit;
 use numbers::index::{ItemIndex, ShelfIndex};
 use numbers::request::Asked;
 use rows::header::Header;
+use rows::item::ItemRow;
+use rows::row::Row;
 use rows::shelf::ShelfRow;
-use rows::{item, shelf};
 
 // More than the depth of any shelf.
 const OVER_ANY_DEPTH: u32 = 65536;
 
-// An item of a shelf. `item` names no row where no place was found.
+// An item of a shelf.
 #[derive(Clone, Copy)]
 pub struct Place {
     pub shelf: ShelfIndex,
@@ -36,7 +37,7 @@ pub fn first_wide(items: &[u16], first: ItemIndex, width: u16) -> ItemIndex
     }
     let mut at = first;
     loop {
-        let v = item::item_there(items, at);
+        let v = ItemRow::there(items, at);
         if width <= v.width {
             return at;
         }
@@ -51,15 +52,12 @@ pub fn first_wide(items: &[u16], first: ItemIndex, width: u16) -> ItemIndex
 fn is_bad_fit(good_to: u16, s: ShelfRow) -> bool
     ensures { result ≡ is_bad_fit good_to s }
 {
-    if s.is_empty == 1 {
-        return false;
-    }
-    good_to < s.height
+    s.is_empty != 1 && good_to < s.height
 }
 
-// The shelf is shallower than asked, or not shallower than the good fit held, or a bad fit while an item is held.
-fn is_skipped(depth: u16, good_to: u16, below: u32, item: ItemIndex, s: ShelfRow) -> bool
-    ensures { result ≡ skipped_by depth good_to below item s }
+// The shelf is shallower than asked, or not shallower than the good fit held, or a bad fit while a place is held.
+fn is_skipped(depth: u16, good_to: u16, below: u32, holding: bool, s: ShelfRow) -> bool
+    ensures { result ≡ skipped_by depth good_to below holding s }
 {
     if s.height < depth {
         return true;
@@ -67,10 +65,7 @@ fn is_skipped(depth: u16, good_to: u16, below: u32, item: ItemIndex, s: ShelfRow
     if below <= s.height as u32 {
         return true;
     }
-    if is_bad_fit(good_to, s) {
-        return !item.is_none();
-    }
-    false
+    is_bad_fit(good_to, s) && holding
 }
 
 // The next shelf to try: the first from row `from` on that is not skipped, or none. On the way what is held stays the same, so that this loop carries no more
@@ -81,15 +76,15 @@ fn next_to_try(
     depth: u16,
     good_to: u16,
     below: u32,
-    item: ItemIndex,
+    holding: bool,
 ) -> ShelfIndex
     requires { EndsFrom (shelf_next shelves.now) (shelf_capacity shelves.now) from.0 }
-    ensures { NextToTry shelves.now depth good_to below item from.0 result.0 }
+    ensures { NextToTry shelves.now depth good_to below holding from.0 result.0 }
 {
     let mut at = from;
     while !at.is_none() {
-        let s = shelf::shelf_there(shelves, at);
-        if !is_skipped(depth, good_to, below, item, s) {
+        let s = ShelfRow::there(shelves, at);
+        if !is_skipped(depth, good_to, below, holding, s) {
             return at;
         }
         at = s.next;
@@ -97,33 +92,31 @@ fn next_to_try(
     ShelfIndex::NONE
 }
 
-// The place held in the end. `below` is the depth of the good fit held, or more than any; `on` and `item` are the place held.
-pub fn search(h: Header, shelves: &[u16], items: &[u16], asked: Asked) -> Place
+// The place held in the end, or none. `below` is the depth of the good fit held, or more than any.
+pub fn search(h: Header, shelves: &[u16], items: &[u16], asked: Asked) -> Option<Place>
     requires { Walkable h shelves.now items.now }
     ensures { result ≡ place_of (search h shelves.now items.now asked) }
 {
     let good_to = fit::good_fit_to(asked.depth);
     let mut from = ShelfIndex(0);
     let mut below = OVER_ANY_DEPTH;
-    let mut on = ShelfIndex::NONE;
-    let mut item = ItemIndex::NONE;
+    let mut held: Option<Place> = None;
     loop {
-        let at = next_to_try(shelves, from, asked.depth, good_to, below, item);
+        let at = next_to_try(shelves, from, asked.depth, good_to, below, held.is_some());
         if at.is_none() {
-            return Place { shelf: on, item };
+            return held;
         }
-        let s = shelf::shelf_there(shelves, at);
+        let s = ShelfRow::there(shelves, at);
         from = s.next;
         let found = first_wide(items, s.first_unallocated, asked.width);
         if !found.is_none() {
+            held = Some(Place {
+                shelf: at,
+                item: found,
+            });
             if s.height == asked.depth {
-                return Place {
-                    shelf: at,
-                    item: found,
-                };
+                return held;
             }
-            on = at;
-            item = found;
             if !is_bad_fit(good_to, s) {
                 below = s.height as u32;
             }

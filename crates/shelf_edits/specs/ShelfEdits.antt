@@ -7,7 +7,7 @@ use Rattle.rows.specs.Prelude.{with_empty}
 use Rattle.pool.specs.Pool.{new_item, add_item, item_taken, new_shelf, add_shelf, shelf_taken, remove_item, remove_shelf, remove_shelf_item, shelf_freed}
 use Rattle.rows.specs.declared.{header.Header.Header, shelf.ShelfRow.ShelfRow}
 use Rattle.wrap.specs.Wrap.{plus16, minus16}
-use Rattle.shelf_edits.specs.State.{State}
+use Rattle.rows.specs.State.{State}
 use Rattle.item_edits.specs.ItemEdits.{lone_item}
 
 -- ---- a shelf row changed

@@ -2,43 +2,55 @@
 #![tactic(auto)]
 
 ghost use Rattle.std.specs.Prelude.{◌≡◌, ◌<◌};
+ghost use Rattle.std.specs.Fn.{FnOnceReturnsAtMut};
 ghost use Rattle.rows.specs.Prelude.{shelf_capacity, change_shelf, with_shelf_prev};
+ghost use Rattle.rows.specs.declared.shelf.ShelfRow.{ShelfRow};
 ghost use Rattle.pool.specs.Pool.{new_item};
-ghost use Rattle.shelf_edits.specs.State.{state, Are};
+ghost use Rattle.rows.specs.State.{state, state_of, StillLent};
 ghost use Rattle.shelf_edits.specs.ShelfEdits.{with_reach, with_free, lower_of, split_shelf, join_shelves, merge_shelves};
 
 use numbers::index::{ItemIndex, ShelfIndex};
 use rows::header::Header;
-use rows::shelf;
+use rows::row::Row;
 use rows::shelf::ShelfRow;
+use rows::tables::Tables;
 
 // ---- one row changed
+
+// The row is what f makes of it; nothing changes where the table has no such row.
+fn change<F: FnOnce(&mut ShelfRow)>(shelves: &mut [u16], at: ShelfIndex, f: F)
+    requires { F.IsAlwaysCallable f }
+    ensures { (g : ShelfRow → ShelfRow) → ((s r : ShelfRow) → FnOnceReturnsAtMut F.FnOnce f s tt r → r ≡ g s) → shelves.new ≡ change_shelf shelves.old at g }
+{
+    let mut s = ShelfRow::get(shelves, at);
+    f(&mut s);
+    s.put(shelves, at);
+}
 
 pub fn set_shelf_prev(shelves: &mut [u16], at: ShelfIndex, prev: ShelfIndex)
     ensures { shelves.new ≡ change_shelf shelves.old at (with_shelf_prev prev) }
 {
-    let mut s = shelf::get_shelf(shelves, at);
-    s.prev = prev;
-    shelf::put_shelf(shelves, at, s);
+    change(shelves, at, |s| s.prev = prev);
 }
 
 pub fn set_reach(shelves: &mut [u16], at: ShelfIndex, height: u16, next: ShelfIndex)
     ensures { shelves.new ≡ change_shelf shelves.old at (with_reach height next) }
 {
-    let mut s = shelf::get_shelf(shelves, at);
-    s.height = height;
-    s.next = next;
-    shelf::put_shelf(shelves, at, s);
+    change(shelves, at, |s| {
+        s.height = height;
+        s.next = next;
+    });
 }
 
+// The table has this row: its length is not tested.
 pub fn set_free(shelves: &mut [u16], at: ShelfIndex, first: ItemIndex, empty: u16)
     requires { at.0 < shelf_capacity shelves.old }
     ensures { shelves.new ≡ change_shelf shelves.old at (with_free first empty) }
 {
-    let mut s = shelf::shelf_there(shelves, at);
+    let mut s = ShelfRow::there(shelves, at);
     s.first_unallocated = first;
     s.is_empty = empty;
-    shelf::put_shelf_there(shelves, at, s);
+    s.put_there(shelves, at);
 }
 
 // ---- a shelf in two
@@ -58,39 +70,29 @@ pub fn next_item(h: Header) -> ItemIndex
 pub fn lower_of(s: ShelfRow, at: ShelfIndex, depth: u16, item: ItemIndex) -> ShelfRow
     ensures { result ≡ lower_of s at depth item }
 {
-    let mut v = s;
-    v.y = wrap::add_u16(s.y, depth);
-    v.height = wrap::sub_u16(s.height, depth);
-    v.prev = at;
-    v.first_item = item;
-    v.first_unallocated = item;
-    v.is_empty = 1;
-    v
+    ShelfRow {
+        y: s.y.wrapping_add(depth),
+        height: s.height.wrapping_sub(depth),
+        prev: at,
+        first_item: item,
+        first_unallocated: item,
+        is_empty: 1,
+        ..s
+    }
 }
 
 // Shelf s, which lies in row `at`, keeps `depth`; a new empty one, which has its shelf row and item row taken in this order, follows it.
-pub fn split_shelf(
-    h: Header,
-    shelves: &mut [u16],
-    items: &mut [u16],
-    at: ShelfIndex,
-    s: ShelfRow,
-    depth: u16,
-) -> Header
-    ensures { Are (split_shelf (state h shelves.old items.old) at s depth) result shelves.new items.new }
+pub fn split_shelf(t: &mut Tables, at: ShelfIndex, s: ShelfRow, depth: u16)
+    ensures is { state_of t.new ≡ split_shelf (state_of t.old) at s depth }
+    ensures lent { StillLent t.old t.new }
 {
-    let next = s.next;
-    let added = pool::add_shelf(h, shelves, lower_of(s, at, depth, next_item(h)));
-    let new = added.idx;
-    let header = added.header;
-    let taken = pool::add_item(
-        header,
-        items,
-        item_edits::lone_item(s.x, h.limits.shelf_width, new),
-    );
-    set_reach(shelves, at, depth, new);
-    set_shelf_prev(shelves, next, new);
-    taken.header
+    let item = next_item(t.header);
+    let added = pool::add_shelf(t.header, t.shelves, lower_of(s, at, depth, item));
+    let row = item_edits::lone_item(s.x, t.header.limits.shelf_width, added.idx);
+    let taken = pool::add_item(added.header, t.items, row);
+    t.header = taken.header;
+    set_reach(t.shelves, at, depth, added.idx);
+    set_shelf_prev(t.shelves, s.next, added.idx);
 }
 
 // ---- two shelves in one
@@ -99,14 +101,14 @@ pub fn split_shelf(
 pub fn join_shelves(shelves: &mut [u16], above: ShelfIndex, at: ShelfIndex)
     ensures { shelves.new ≡ join_shelves shelves.old above at }
 {
-    let a = shelf::get_shelf(shelves, above);
-    let s = shelf::get_shelf(shelves, at);
+    let a = ShelfRow::get(shelves, above);
+    let s = ShelfRow::get(shelves, at);
     let next = s.next;
-    set_reach(shelves, above, wrap::add_u16(a.height, s.height), next);
+    set_reach(shelves, above, a.height.wrapping_add(s.height), next);
     set_shelf_prev(shelves, next, above);
 }
 
-// Then its item row is freed, and its shelf row.
+// Then its item row is freed, and its shelf row. The header goes by value: few releases come here, and the others keep it in registers.
 pub fn merge_shelves(
     h: Header,
     shelves: &mut [u16],
@@ -114,7 +116,7 @@ pub fn merge_shelves(
     above: ShelfIndex,
     at: ShelfIndex,
 ) -> Header
-    ensures { Are (merge_shelves (state h shelves.old items.old) above at) result shelves.new items.new }
+    ensures { state result shelves.new items.new ≡ merge_shelves (state h shelves.old items.old) above at }
 {
     join_shelves(shelves, above, at);
     pool::remove_shelf(h, shelves, items, at)

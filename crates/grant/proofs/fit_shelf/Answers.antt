@@ -1,14 +1,9 @@
-use Rattle.numbers.specs.Library.{refl}
-use Rattle.shelf_edits.specs.State.{state}
+use Rattle.numbers.specs.Library.{sym, ◌∙◌}
 use Rattle.grant.specs.Grant.{fits_split, fits_whole}
 use Rattle.grant.proofs.fit_shelf.Goals as goal
 
-pub returns-then-p : goal.returns-then-p
-returns-then-p c =
-    let a = c.args in
-    rw (fits_split (state a.h a.shelves.now a.items.now) a.p c.if-p.true) c.split_shelf.ensures
+pub returns-then-p-clause-is : goal.returns-then-p-clause-is
+returns-then-p-clause-is c = c.split_shelf.ensures.is ∙ sym (fits_split _ c.args.p c.if-p.true)
 
-pub returns : goal.returns
-returns c =
-    let a = c.args in
-    rw (fits_whole (state a.h a.shelves.now a.items.now) a.p c.if-p.false) (record { header = refl; shelves = refl; items = refl })
+pub returns-else-p-clause-is : goal.returns-else-p-clause-is
+returns-else-p-clause-is c = sym (fits_whole _ c.args.p c.if-p.false)

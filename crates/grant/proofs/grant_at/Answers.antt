@@ -1,24 +1,27 @@
 -- `grant_at`: the shelf is fitted, then the item taken, then the area added.
-use Rattle.std.specs.Prelude.{◌*◌, ◌≡◌}
-use Rattle.numbers.specs.Library.{ℕ, List}
-use Rattle.rows.specs.declared.header.Header.{Header}
+use Rattle.std.specs.Prelude.{◌≡◌, length}
+use Rattle.numbers.specs.Library.{ap, ◌∙◌, Bool, true, false, refl}
+use Rattle.numbers.specs.Prelude.{pick}
 use Rattle.plan.specs.declared.Plan.{Plan}
-use Rattle.shelf_edits.specs.State.{State, state, Are, then_are}
-use Rattle.grant.specs.Grant.{there_long, fit_shelf, take_item, with_area_added, grant_at}
+use Rattle.rows.specs.State.{State}
+use Rattle.shelf_edits.specs.ShelfEdits.{split_shelf, length-split_shelf}
+use Rattle.grant.specs.Grant.{there_long, fit_shelf, grant_at}
 use Rattle.grant.proofs.grant_at.Goals as goal
 
--- the three steps together, over variables, where rewriting costs little
-all-steps : (st : State) (p : Plan) {h h' h'' : Header} {S I S' I' : List ℕ} {area : ℕ} → Are (fit_shelf st p) h S I → Are (take_item (state h S I) p) h' S' I'
-    → area ≡ p.width * p.depth → h'' ≡ with_area_added h' area → Are (grant_at st p) h'' S' I'
+-- fitting a shelf leaves the tables as long as they were
+fit_long : (st : State) (p : Plan) → (length (fit_shelf st p).shelves ≡ length st.shelves) × (length (fit_shelf st p).items ≡ length st.items)
+unfolding fit_shelf
+fit_long st p = go p.shelf_split where
+  go : (b : Bool) → let fitted : State = pick b (split_shelf st p.shelf p.shelf_row p.depth) st in
+      (length fitted.shelves ≡ length st.shelves) × (length fitted.items ≡ length st.items)
+  go true = length-split_shelf st p.shelf p.shelf_row p.depth
+  go false = (refl, refl)
+
+pub take_item-requires : goal.take_item-requires
+take_item-requires c =
+    let long = fit_long _ c.args.p in
+    there_long c.args.p (ap (λ (st : State). length st.shelves) c.fit_shelf.ensures.is ∙ long.0) (ap (λ (st : State). length st.items) c.fit_shelf.ensures.is ∙ long.1) c.requires
+
+pub returns-clause-is : goal.returns-clause-is
 unfolding grant_at
-all-steps st p fitted taken is-area is-header =
-    let both : Are (take_item (fit_shelf st p) p) _ _ _ = then_are (λ (x : State). take_item x p) fitted taken in
-    record { header = rw (is-header, is-area, both.header); shelves = both.shelves; items = both.items }
-
-pub take_item-taken-requires : goal.take_item-taken-requires
-take_item-taken-requires c = there_long c.args.p c.fit_shelf-fitted.auto.shelves c.fit_shelf-fitted.auto.items c.requires
-
-pub returns : goal.returns
-returns c =
-    let a = c.args in
-    all-steps (state a.h a.shelves.now a.items.now) a.p c.fit_shelf-fitted.ensures c.take_item-taken.ensures c.area.ensures c.occupy.ensures
+returns-clause-is c = rw (c.occupy-t.ensures, c.area.ensures, ← c.fit_shelf.ensures.is, ← c.take_item.ensures.is)

@@ -1,13 +1,9 @@
-use Rattle.shelf_edits.specs.State.{state}
+use Rattle.numbers.specs.Library.{sym, ◌∙◌}
 use Rattle.grant.specs.Grant.{takes_part, takes_whole}
 use Rattle.grant.proofs.take_item.Goals as goal
 
-pub returns-then-p : goal.returns-then-p
-returns-then-p c =
-    let a = c.args in
-    rw (takes_part (state a.h a.shelves.now a.items.now) a.p c.if-p.true) c.take_part.ensures
+pub returns-then-p-clause-is : goal.returns-then-p-clause-is
+returns-then-p-clause-is c = c.take_part.ensures.is ∙ sym (takes_part _ c.args.p c.if-p.true)
 
-pub returns : goal.returns
-returns c =
-    let a = c.args in
-    rw (takes_whole (state a.h a.shelves.now a.items.now) a.p c.if-p.false) c.take_whole.ensures
+pub returns-else-p-clause-is : goal.returns-else-p-clause-is
+returns-else-p-clause-is c = c.take_whole.ensures.is ∙ sym (takes_whole _ c.args.p c.if-p.false)

@@ -1,4 +1,4 @@
-use Rattle.numbers.specs.Library.{rules, inl}
+use Rattle.numbers.specs.Library.{inl}
 use Rattle.pool.specs.Pool.{added_item}
 use Rattle.item_edits.specs.ItemEdits.{rows-split_item, rows-relist}
 use Rattle.grant.specs.Grant.{take_part_items, take_part}
@@ -20,19 +20,6 @@ pub use_shelf-requires : goal.use_shelf-requires
 unfolding take_part take_part_items added_item
 use_shelf-requires c = c.requires.shelf
 
-pub shape_of-shelves : goal.shape_of-shelves
+pub returns-clause-is : goal.returns-clause-is
 unfolding take_part take_part_items added_item
-shape_of-shelves c = search rules
-
-pub shape_of-items : goal.shape_of-items
-unfolding take_part take_part_items added_item
-shape_of-items c = search rules
-
-pub returns : goal.returns
-unfolding take_part take_part_items added_item
-returns c =
-    record {
-      header = rw c.split_item-added.ensures.0;
-      shelves = rw (c.use_shelf.ensures, c.split_item-added.ensures.0);
-      items = rw (c.mark_live.ensures, c.relist.ensures, c.split_item-added.ensures.0, c.split_item-added.ensures.1);
-    }
+returns-clause-is c = rw (c.use_shelf.ensures, c.mark_live.ensures, c.relist.ensures, c.split_item-added.ensures.0, c.split_item-added.ensures.1)

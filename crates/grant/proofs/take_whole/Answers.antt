@@ -1,4 +1,4 @@
-use Rattle.numbers.specs.Library.{rules, refl, inl}
+use Rattle.numbers.specs.Library.{inl}
 use Rattle.item_edits.specs.ItemEdits.{rows-unlist_row}
 use Rattle.grant.specs.Grant.{take_whole_items, take_whole}
 use Rattle.grant.proofs.take_whole.Goals as goal
@@ -15,19 +15,6 @@ pub use_shelf-requires : goal.use_shelf-requires
 unfolding take_whole take_whole_items
 use_shelf-requires c = c.requires.shelf
 
-pub shape_of-shelves : goal.shape_of-shelves
+pub returns-clause-is : goal.returns-clause-is
 unfolding take_whole take_whole_items
-shape_of-shelves c = search rules
-
-pub shape_of-items : goal.shape_of-items
-unfolding take_whole take_whole_items
-shape_of-items c = search rules
-
-pub returns : goal.returns
-unfolding take_whole take_whole_items
-returns c =
-    record {
-      header = refl;
-      shelves = c.use_shelf.ensures;
-      items = rw (c.mark_live.ensures, c.unlist_row.ensures);
-    }
+returns-clause-is c = rw (c.use_shelf.ensures, c.mark_live.ensures, c.unlist_row.ensures)

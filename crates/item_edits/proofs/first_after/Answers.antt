@@ -1,12 +1,10 @@
-use Rattle.numbers.specs.Library.{sym, eq-eqb, ne_eqb}
-use Rattle.numbers.specs.Prelude.{pick_yes, pick_no}
 use Rattle.item_edits.specs.ItemEdits.{first_after}
 use Rattle.item_edits.proofs.first_after.Goals as goal
 
-pub returns-then-first-at : goal.returns-then-first-at
+pub returns-then-eq : goal.returns-then-eq
 unfolding first_after
-returns-then-first-at c = sym (pick_yes _ _ (eq-eqb _ _ c.if-first-at.true))
+returns-then-eq c = rw (← c.eq.ensures, c.if-eq.true)
 
 pub returns : goal.returns
 unfolding first_after
-returns c = sym (pick_no _ _ (ne_eqb _ _ c.if-first-at.false))
+returns c = rw (← c.eq.ensures, c.if-eq.false)

@@ -1,4 +1,3 @@
-use Rattle.numbers.specs.Library.{rules}
 use Rattle.rows.specs.Prelude.{rows-change}
 use Rattle.item_edits.specs.ItemEdits.{relist}
 use Rattle.item_edits.proofs.relist.Goals as goal
@@ -10,10 +9,6 @@ set_next_unallocated-requires c = c.requires.prev_free
 pub set_prev_unallocated-requires : goal.set_prev_unallocated-requires
 unfolding relist
 set_prev_unallocated-requires c = rw (c.set_next_unallocated.ensures, rows-change) c.requires.next_free
-
-pub shape_of-items : goal.shape_of-items
-unfolding relist
-shape_of-items c = search rules
 
 pub returns : goal.returns
 unfolding relist

@@ -1,16 +1,7 @@
-use Rattle.numbers.specs.Library.{rules}
 use Rattle.rows.specs.Prelude.{rows-put, rows-change}
 use Rattle.pool.specs.Pool.{added_item, add_item}
 use Rattle.item_edits.specs.ItemEdits.{split_item}
 use Rattle.item_edits.proofs.split_item.Goals as goal
-
-pub rest_of-requires : goal.rest_of-requires
-unfolding split_item added_item add_item
-rest_of-requires c = search rules
-
-pub add_item-added-requires : goal.add_item-added-requires
-unfolding split_item added_item add_item
-add_item-added-requires c = search rules
 
 pub set_span-requires : goal.set_span-requires
 unfolding split_item added_item add_item
@@ -19,10 +10,6 @@ set_span-requires c = rw (c.add_item-added.ensures.1, rows-put) c.requires.0
 pub set_prev-requires : goal.set_prev-requires
 unfolding split_item added_item add_item
 set_prev-requires c = rw (c.set_span.ensures, rows-change, c.add_item-added.ensures.1, rows-put) c.requires.1.next
-
-pub shape_of-items : goal.shape_of-items
-unfolding split_item added_item add_item
-shape_of-items c = search rules
 
 pub returns : goal.returns
 unfolding split_item added_item add_item

@@ -1,4 +1,3 @@
-use Rattle.numbers.specs.Library.{rules}
 use Rattle.rows.specs.Prelude.{rows-change}
 use Rattle.item_edits.specs.ItemEdits.{unlist_row}
 use Rattle.item_edits.proofs.unlist_row.Goals as goal
@@ -10,10 +9,6 @@ set_next_unallocated-requires c = c.requires.prev_free
 pub set_prev_unallocated-requires : goal.set_prev_unallocated-requires
 unfolding unlist_row
 set_prev_unallocated-requires c = rw (c.set_next_unallocated.ensures, rows-change) c.requires.next_free
-
-pub shape_of-items : goal.shape_of-items
-unfolding unlist_row
-shape_of-items c = search rules
 
 pub returns : goal.returns
 unfolding unlist_row

@@ -1,4 +1,4 @@
 use Rattle.live_rows.proofs.live_of_item.Goals as goal
 
 pub returns : goal.returns
-returns c = rw (c.live_of_rows.ensures, c.shelf_there.ensures)
+returns c = rw (c.live_of_rows.ensures, c.there.ensures)

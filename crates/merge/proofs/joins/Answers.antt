@@ -1,24 +1,23 @@
-use Rattle.numbers.specs.Library.{rules, eq-eqb, ne_eqb}
+use Rattle.numbers.specs.Library.{sym, ◌∙◌, eq-eqb, eqb-true, ne_eqb}
 use Rattle.search.specs.Search.{shelf_is_empty}
 use Rattle.merge.specs.Merge.{joins}
 use Rattle.merge.proofs.joins.Goals as goal
+use Rattle.merge.proofs.joins.Goals.{then-a-eq1, else-a-eq1}
 
-pub get_shelf-a-requires : goal.get_shelf-a-requires
+pub returns-else-both_empty : goal.returns-else-both_empty
 unfolding joins shelf_is_empty
-get_shelf-a-requires c = search rules
+returns-else-both_empty c =
+    rw (← c.shelf-a.ensures, ← c.shelf-s.ensures)
+    (elim c.if-a-eq1.branch [
+      | then-a-eq1 w ↦ rw (eq-eqb _ _ w.if-a-eq1.true, ← w.both_empty-is, c.if-both_empty.false)
+      | else-a-eq1 w ↦ rw (ne_eqb _ _ w.if-a-eq1.false) c.if-both_empty.false
+    ])
 
-pub get_shelf-s-requires : goal.get_shelf-s-requires
+pub returns-then-both_empty : goal.returns-then-both_empty
 unfolding joins shelf_is_empty
-get_shelf-s-requires c = search rules
-
-pub returns-then-a-ne1 : goal.returns-then-a-ne1
-unfolding joins shelf_is_empty
-returns-then-a-ne1 c = rw (← c.get_shelf-a.ensures, ne_eqb _ _ c.if-a-ne1.true)
-
-pub returns-then-s-ne1 : goal.returns-then-s-ne1
-unfolding joins shelf_is_empty
-returns-then-s-ne1 c = rw (← c.get_shelf-a.ensures, eq-eqb _ _ c.if-a-ne1.false, ← c.get_shelf-s.ensures, ne_eqb _ _ c.if-s-ne1.true)
-
-pub returns : goal.returns
-unfolding joins shelf_is_empty
-returns c = rw (← c.get_shelf-a.ensures, eq-eqb _ _ c.if-a-ne1.false, ← c.get_shelf-s.ensures, eq-eqb _ _ c.if-s-ne1.false)
+returns-then-both_empty c =
+    rw (← c.shelf-a.ensures, ← c.shelf-s.ensures)
+    (elim c.if-a-eq1.branch [
+      | then-a-eq1 w ↦ rw (eq-eqb _ _ w.if-a-eq1.true, ← w.both_empty-is, c.if-both_empty.true)
+      | else-a-eq1 w ↦ absurd (w.if-a-eq1.false (eqb-true _ _ (sym w.both_empty-is ∙ c.if-both_empty.true)))
+    ])

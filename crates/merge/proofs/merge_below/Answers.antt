@@ -1,35 +1,10 @@
-use Rattle.numbers.specs.Library.{rules, refl}
 use Rattle.merge.specs.Merge.{merge_below}
 use Rattle.merge.proofs.merge_below.Goals as goal
 
-pub get_shelf-s-requires : goal.get_shelf-s-requires
+pub returns-then-joins-clause-is : goal.returns-then-joins-clause-is
 unfolding merge_below
-get_shelf-s-requires c = search rules
+returns-then-joins-clause-is c = rw (← c.shelf-s.ensures, ← c.joins.ensures, c.if-joins.true) c.merge_shelves-t.ensures
 
-pub joins-requires : goal.joins-requires
+pub returns-else-joins-clause-is : goal.returns-else-joins-clause-is
 unfolding merge_below
-joins-requires c = search rules
-
-pub merge_shelves-requires : goal.merge_shelves-requires
-unfolding merge_below
-merge_shelves-requires c = search rules
-
-pub shape_of-shelves-then-joins : goal.shape_of-shelves-then-joins
-unfolding merge_below
-shape_of-shelves-then-joins c = search rules
-
-pub shape_of-items-then-joins : goal.shape_of-items-then-joins
-unfolding merge_below
-shape_of-items-then-joins c = search rules
-
-pub returns-then-joins : goal.returns-then-joins
-unfolding merge_below
-returns-then-joins c = rw (← c.get_shelf-s.ensures, ← c.joins.ensures, c.if-joins.true) c.merge_shelves.ensures
-
-pub shape_of-shelves : goal.shape_of-shelves
-unfolding merge_below
-shape_of-shelves c = search rules
-
-pub returns : goal.returns
-unfolding merge_below
-returns c = rw (← c.get_shelf-s.ensures, ← c.joins.ensures, c.if-joins.false) (record { header = refl; shelves = refl; items = refl })
+returns-else-joins-clause-is c = rw (← c.shelf-s.ensures, ← c.joins.ensures, c.if-joins.false)

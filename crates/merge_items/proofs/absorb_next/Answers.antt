@@ -1,4 +1,3 @@
-use Rattle.numbers.specs.Library.{rules}
 use Rattle.rows.specs.Prelude.{below_there}
 use Rattle.item_edits.specs.ItemEdits.{next_unlist}
 use Rattle.merge_items.specs.MergeItems.{absorb_next}
@@ -20,14 +19,6 @@ unlist-requires c = rw c.linked_item-i.ensures (unlist_asks c.requires.table _ (
 pub join_next-header-requires : goal.join_next-header-requires
 unfolding absorb_next
 join_next-header-requires c = rw (c.unlist.ensures, c.linked_item-i.ensures) (join_asks (unlisted c.requires) _ c.requires.here)
-
-pub first_after-requires : goal.first_after-requires
-unfolding absorb_next
-first_after-requires c = search rules
-
-pub shape_of-items : goal.shape_of-items
-unfolding absorb_next
-shape_of-items c = search rules
 
 pub returns : goal.returns
 unfolding absorb_next

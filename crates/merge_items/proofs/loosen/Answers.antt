@@ -1,4 +1,3 @@
-use Rattle.numbers.specs.Library.{rules}
 use Rattle.rows.specs.Prelude.{below_there}
 use Rattle.merge_items.specs.MergeItems.{loosen}
 use Rattle.merge_items.specs.LooseIn.{marked, from_here, next_in, goes_on}
@@ -15,10 +14,6 @@ merge_next-m-requires c = rw c.mark_free.ensures (from_here (marked c.requires))
 pub merge_into-requires : goal.merge_into-requires
 unfolding loosen
 merge_into-requires c = goes_on (rw c.mark_free.ensures at c.merge_next-m.ensures) (next_in (marked c.requires))
-
-pub shape_of-items : goal.shape_of-items
-unfolding loosen
-shape_of-items c = search rules
 
 pub returns : goal.returns
 unfolding loosen

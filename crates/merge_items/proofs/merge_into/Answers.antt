@@ -1,4 +1,4 @@
-use Rattle.numbers.specs.Library.{rules, refl}
+use Rattle.numbers.specs.Library.{refl}
 use Rattle.rows.specs.Prelude.{below_there}
 use Rattle.merge_items.specs.MergeItems.{merge_into}
 use Rattle.merge_items.specs.LooseIn.{around, join_asks}
@@ -16,10 +16,6 @@ pub join_next-header-requires : goal.join_next-header-requires
 unfolding merge_into
 join_next-header-requires c = rw c.linked_item-i.ensures (join_asks c.requires.table _ (around c.requires).prev)
 
-pub shape_of-items-then-is_free_item : goal.shape_of-items-then-is_free_item
-unfolding merge_into
-shape_of-items-then-is_free_item c = search rules
-
 pub returns-then-is_free_item : goal.returns-then-is_free_item
 unfolding merge_into
 returns-then-is_free_item c = rw (← c.linked_item-i.ensures, ← c.is_free_item.ensures, c.if-is_free_item.true) (record { header = c.join_next-header.ensures.0; first = refl; items = c.join_next-header.ensures.1 })
@@ -27,10 +23,6 @@ returns-then-is_free_item c = rw (← c.linked_item-i.ensures, ← c.is_free_ite
 pub enlist-requires : goal.enlist-requires
 unfolding merge_into
 enlist-requires c = (below_there c.requires.table _ c.requires.first, below_there c.requires.table _ c.requires.here)
-
-pub shape_of-items : goal.shape_of-items
-unfolding merge_into
-shape_of-items c = search rules
 
 pub returns : goal.returns
 unfolding merge_into

@@ -1,4 +1,4 @@
-use Rattle.numbers.specs.Library.{rules, refl}
+use Rattle.numbers.specs.Library.{refl}
 use Rattle.rows.specs.Prelude.{below_there}
 use Rattle.merge_items.specs.MergeItems.{merge_next}
 use Rattle.merge_items.specs.LooseIn.{around}
@@ -12,21 +12,9 @@ pub is_free_item-requires : goal.is_free_item-requires
 unfolding merge_next
 is_free_item-requires c = rw c.linked_item-i.ensures (below_there c.requires.table _ (around c.requires).next)
 
-pub absorb_next-requires : goal.absorb_next-requires
-unfolding merge_next
-absorb_next-requires c = search rules
-
-pub shape_of-items-then-is_free_item : goal.shape_of-items-then-is_free_item
-unfolding merge_next
-shape_of-items-then-is_free_item c = search rules
-
 pub returns-then-is_free_item : goal.returns-then-is_free_item
 unfolding merge_next
 returns-then-is_free_item c = rw (← c.linked_item-i.ensures, ← c.is_free_item.ensures, c.if-is_free_item.true) c.absorb_next.ensures
-
-pub shape_of-items : goal.shape_of-items
-unfolding merge_next
-shape_of-items c = search rules
 
 pub returns : goal.returns
 unfolding merge_next

@@ -1,72 +1,56 @@
 -- `enough_rows`: shelf rows are judged first; the item rows that both splits need are then at most the unused ones, or at most those and the freed.
 use Rattle.std.specs.Prelude.{◌+◌, ◌≡◌}
-use Rattle.numbers.specs.Library.{rules, arith, le-leb, not-true, not-false}
+use mir.Val.{bool_byte}
+use Rattle.numbers.specs.Library.{ℕ, Bool, true, false, arith, le-leb, not-true, not-false}
 use Rattle.plan.specs.Spare.{count, enough_rows, spare_items, freed_items, few_splits, few_items}
 use Rattle.numbers.specs.Library.{ap, not}
 use Rattle.plan.proofs.enough_rows.Goals as goal
 
-pub enough_shelves-requires : goal.enough_shelves-requires
-unfolding enough_rows spare_items
-enough_shelves-requires c = search rules
+-- a split counts 1, as a number
+counted : (split : Bool) (n : ℕ) → n ≡ bool_byte split → n ≡ count split
+unfolding count
+counted true n e = e
+counted false n e = e
 
 pub returns-then-not-enough_shelves : goal.returns-then-not-enough_shelves
 unfolding enough_rows spare_items
 returns-then-not-enough_shelves c = rw (← c.enough_shelves.ensures, not-true c.enough_shelves.result (ap not c.if-not-enough_shelves.true))
 
-pub count-requires : goal.count-requires
-unfolding enough_rows spare_items
-count-requires c = search rules
-
-pub count-requires-2 : goal.count-requires-2
-unfolding enough_rows spare_items
-count-requires-2 c = search rules
-
 pub overflow_add-needed : goal.overflow_add-needed
 unfolding enough_rows spare_items
-overflow_add-needed c = omega (arith, few_splits _ _ c.count-2.ensures, few_splits _ _ c.count.ensures)
-
-pub item_capacity-requires : goal.item_capacity-requires
-unfolding enough_rows spare_items
-item_capacity-requires c = search rules
-
-pub unused-never_used-requires : goal.unused-never_used-requires
-unfolding enough_rows spare_items
-unused-never_used-requires c = search rules
+overflow_add-needed c = omega (arith, few_splits _ _ (counted _ _ c.from-2.ensures), few_splits _ _ (counted _ _ c.from.ensures))
 
 pub returns-then-needed-never_used : goal.returns-then-needed-never_used
 unfolding enough_rows spare_items
 returns-then-needed-never_used c =
     let args = c.args in
-    let rows-for-shelf : c.count.result ≡ count args.shelf_split = c.count.ensures in
+    let rows-for-shelf : c.from.result ≡ count args.shelf_split = counted _ _ c.from.ensures in
     rw (
       ← c.enough_shelves.ensures,
       not-false c.enough_shelves.result (ap not c.if-not-enough_shelves.false),
       ← rows-for-shelf,
-      ← c.count-2.ensures,
-      ← c.item_capacity.ensures,
+      ← counted _ _ c.from-2.ensures,
+      ← c.capacity.ensures,
       ← c.unused-never_used.ensures,
-      le-leb (c.count.result + c.count-2.result) (c.unused-never_used.result + freed_items args.h args.items.now) (omega arith),
+      le-leb (c.from.result + c.from-2.result) (c.unused-never_used.result + freed_items args.h args.items.now) (omega arith),
     )
-
-pub freed_items-requires : goal.freed_items-requires
-unfolding enough_rows spare_items
-freed_items-requires c = search rules
+    (le-leb _ _ c.if-needed-never_used.true)
 
 pub overflow_add-result : goal.overflow_add-result
 unfolding enough_rows spare_items
 overflow_add-result c = omega (arith, few_items _ _ _ c.freed_items.ensures, c.unused-never_used.ensures)
 
-pub returns : goal.returns
+pub returns-else-needed-never_used : goal.returns-else-needed-never_used
 unfolding enough_rows spare_items
-returns c =
+returns-else-needed-never_used c =
     let args = c.args in
-    let rows-for-shelf : c.count.result ≡ count args.shelf_split = c.count.ensures in
+    let rows-for-shelf : c.from.result ≡ count args.shelf_split = counted _ _ c.from.ensures in
     rw (
       ← c.enough_shelves.ensures,
       not-false c.enough_shelves.result (ap not c.if-not-enough_shelves.false),
       ← rows-for-shelf,
-      ← c.count-2.ensures,
-      ← c.item_capacity.ensures,
+      ← counted _ _ c.from-2.ensures,
+      ← c.capacity.ensures,
       ← c.unused-never_used.ensures,
       ← c.freed_items.ensures,
     )

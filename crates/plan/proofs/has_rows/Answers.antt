@@ -2,30 +2,18 @@
 use Rattle.numbers.specs.Library.{rules, sym, ◌∙◌, not-true}
 use Rattle.plan.specs.Spare.{none_needed, freed_enough}
 use Rattle.plan.specs.Plan.{has_rows}
-use Rattle.numbers.specs.Library.{ap, not}
 use Rattle.plan.proofs.has_rows.Goals as goal
-
-pub returns-then-not-p-2 : goal.returns-then-not-p-2
-unfolding has_rows
-returns-then-not-p-2 c =
-    let a = c.args in
-    sym (none_needed a.h a.shelves.now a.items.now _ _ (search rules) (search rules))
-
-pub is_none-requires : goal.is_none-requires
-unfolding has_rows
-is_none-requires c = search rules
+use Rattle.plan.proofs.has_rows.Goals.{then-not-p-2, else-not-p-2}
 
 pub returns-then-not-is_none : goal.returns-then-not-is_none
 unfolding has_rows
 returns-then-not-is_none c =
     let a = c.args in
-    let some-head = sym c.is_none.ensures ∙ not-true c.is_none.result (ap not c.if-not-is_none.true) in
-    sym (freed_enough a.h a.shelves.now a.items.now _ _ (search rules) some-head)
-
-pub enough_rows-requires : goal.enough_rows-requires
-unfolding has_rows
-enough_rows-requires c = search rules
+    elim c.if-not-p-2.branch [
+      | then-not-p-2 w ↦ sym (none_needed a.h a.shelves.now a.items.now _ _ (search rules) (search rules))
+      | else-not-p-2 w ↦ sym (freed_enough a.h a.shelves.now a.items.now _ _ c.if-not-p.true (sym w.is_none.ensures ∙ not-true w.is_none.result (sym w.value-is ∙ c.if-not-is_none.true)))
+    ]
 
 pub returns : goal.returns
 unfolding has_rows
-returns c = search rules
+returns c = c.enough_rows.ensures

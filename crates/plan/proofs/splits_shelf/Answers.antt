@@ -1,16 +1,12 @@
-use Rattle.numbers.specs.Library.{rules, eq-eqb, ne_eqb}
+use Rattle.numbers.specs.Library.{eq-eqb, ne_eqb}
 use Rattle.search.specs.Search.{shelf_is_empty}
 use Rattle.plan.specs.Plan.{splits_shelf}
 use Rattle.plan.proofs.splits_shelf.Goals as goal
 
-pub returns-then-s-ne1 : goal.returns-then-s-ne1
+pub returns-else-s-eq1 : goal.returns-else-s-eq1
 unfolding splits_shelf shelf_is_empty
-returns-then-s-ne1 c = rw (ne_eqb _ _ c.if-s-ne1.true)
+returns-else-s-eq1 c = rw (ne_eqb _ _ c.if-s-eq1.false)
 
-pub splits_shelf-requires : goal.splits_shelf-requires
+pub returns-then-s-eq1 : goal.returns-then-s-eq1
 unfolding splits_shelf shelf_is_empty
-splits_shelf-requires c = search rules
-
-pub returns : goal.returns
-unfolding splits_shelf shelf_is_empty
-returns c = rw (eq-eqb _ _ c.if-s-ne1.false, c.splits_shelf.ensures)
+returns-then-s-eq1 c = rw (eq-eqb _ _ c.if-s-eq1.true, c.splits_shelf.ensures)

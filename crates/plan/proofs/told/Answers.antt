@@ -1,11 +1,6 @@
-use Rattle.numbers.specs.Library.{rules}
 use Rattle.rows.specs.Prelude.{with_width, with_height}
 use Rattle.plan.specs.Plan.{told}
 use Rattle.plan.proofs.told.Goals as goal
-
-pub live_of_rows-requires : goal.live_of_rows-requires
-unfolding told with_width with_height
-live_of_rows-requires c = search rules
 
 pub returns : goal.returns
 unfolding told with_width with_height

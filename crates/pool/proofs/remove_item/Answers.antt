@@ -5,4 +5,4 @@ use Rattle.pool.proofs.remove_item.Goals as goal
 
 pub returns : goal.returns
 unfolding remove_item item_freed freed_item_row with_free_items with_item_next with_generation
-returns c = (refl, rw (c.put_item.ensures, c.no_item-v.ensures, c.get_item-old.ensures))
+returns c = (refl, rw (c.put.ensures, c.zero-v.ensures, c.get-old.ensures))

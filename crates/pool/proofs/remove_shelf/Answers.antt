@@ -5,7 +5,7 @@ use Rattle.pool.proofs.remove_shelf.Goals as goal
 pub returns : goal.returns
 unfolding shelf_freed remove_shelf remove_shelf_item freed_shelf_row with_free_shelves with_shelf_next
 returns c = (
-  rw (c.remove_item-header.ensures.0, c.get_shelf-old.ensures),
-  rw (c.put_shelf.ensures, c.no_shelf-v.ensures),
-  rw (c.remove_item-header.ensures.1, c.get_shelf-old.ensures),
+  rw (c.remove_item-header.ensures.0, c.get-old.ensures),
+  rw (c.put.ensures, c.zero-v.ensures),
+  rw (c.remove_item-header.ensures.1, c.get-old.ensures),
 )

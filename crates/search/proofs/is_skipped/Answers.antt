@@ -14,9 +14,9 @@ returns-then-below-s c = rw (le-ltb _ _ c.if-s-depth.false, le-leb _ _ c.if-belo
 pub returns-then-is_bad_fit : goal.returns-then-is_bad_fit
 unfolding skipped_by
 returns-then-is_bad_fit c =
-    rw (le-ltb _ _ c.if-s-depth.false, lt-leb _ _ c.if-below-s.false, ← c.is_bad_fit.ensures, c.if-is_bad_fit.true, ← c.is_none.ensures)
+    rw (le-ltb _ _ c.if-s-depth.false, lt-leb _ _ c.if-below-s.false, ← c.is_bad_fit.ensures, c.if-is_bad_fit.true)
 
-pub returns : goal.returns
+pub returns-else-is_bad_fit : goal.returns-else-is_bad_fit
 unfolding skipped_by
-returns c =
+returns-else-is_bad_fit c =
     rw (le-ltb _ _ c.if-s-depth.false, lt-leb _ _ c.if-below-s.false, ← c.is_bad_fit.ensures, c.if-is_bad_fit.false)

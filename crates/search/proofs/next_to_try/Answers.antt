@@ -5,24 +5,24 @@ use Rattle.search.proofs.Tests.{some, none}
 use Rattle.numbers.specs.Library.{ap, not}
 use Rattle.search.proofs.next_to_try.Goals as goal
 
-pub loop-item-init : goal.loop-item-init
-loop-item-init c = record { ends = c.requires; passed = start }
+pub loop-at-init : goal.loop-at-init
+loop-at-init c = record { ends = c.requires; passed = start }
 
-pub shelf_there-s-requires : goal.shelf_there-s-requires
-shelf_there-s-requires c = row_there c.loop-item.invariant (some c.is_none.ensures (ap not c.loop-item-test.true))
+pub there-s-requires : goal.there-s-requires
+there-s-requires c = row_there c.loop-at.invariant (some c.is_none.ensures (ap not c.loop-at-test.true))
 
 pub returns-then-not-is_skipped : goal.returns-then-not-is_skipped
 returns-then-not-is_skipped c =
-    to_try c.loop-item.invariant (some c.is_none.ensures (ap not c.loop-item-test.true)) _ c.shelf_there-s.ensures
+    to_try c.loop-at.invariant (some c.is_none.ensures (ap not c.loop-at-test.true)) _ c.there-s.ensures
     c.is_skipped.ensures (ap not c.if-not-is_skipped.true)
 
-pub loop-item-smaller : goal.loop-item-smaller
-loop-item-smaller c = shorter c.loop-item.invariant (some c.is_none.ensures (ap not c.loop-item-test.true)) _ c.shelf_there-s.ensures
+pub loop-at-smaller : goal.loop-at-smaller
+loop-at-smaller c = shorter c.loop-at.invariant (some c.is_none.ensures (ap not c.loop-at-test.true)) _ c.there-s.ensures
 
-pub loop-item-preserved : goal.loop-item-preserved
-loop-item-preserved c =
-    onward c.loop-item.invariant (some c.is_none.ensures (ap not c.loop-item-test.true)) _ c.shelf_there-s.ensures
-    c.is_skipped.ensures (omega (arith, c.shelf_there-s.type_inv)) (ap not c.if-not-is_skipped.false)
+pub loop-at-preserved : goal.loop-at-preserved
+loop-at-preserved c =
+    onward c.loop-at.invariant (some c.is_none.ensures (ap not c.loop-at-test.true)) _ c.there-s.ensures
+    c.is_skipped.ensures (omega (arith, c.there-s.type_inv)) (ap not c.if-not-is_skipped.false)
 
 pub returns : goal.returns
-returns c = none_left c.loop-item.invariant (none c.is_none.ensures (ap not c.loop-item-test.false))
+returns c = none_left c.loop-at.invariant (none c.is_none.ensures (ap not c.loop-at-test.false))

@@ -1,10 +1,5 @@
-use Rattle.numbers.specs.Library.{rules}
 use Rattle.pool.specs.Pool.{new_row, new_item}
 use Rattle.shelf_edits.proofs.next_item.Goals as goal
-
-pub is_none-requires : goal.is_none-requires
-unfolding new_row new_item
-is_none-requires c = search rules
 
 pub returns-then-is_none : goal.returns-then-is_none
 unfolding new_row new_item
