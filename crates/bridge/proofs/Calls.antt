@@ -10,7 +10,7 @@ use Rattle.rules.specs.Prelude.{Atlas, occupied, fresh, refused, gives, grants, 
 use Rattle.rules.specs.Prelude.{room_in, atlas_in, Passes, PassesForClear, Becomes}
 use Rattle.laws.specs.Same.{SameUsed}
 use Rattle.laws.proofs.Stored.Reading.{reads, formed}
-use Rattle.shelf_edits.specs.State.{state}
+use Rattle.rows.specs.State.{state}
 use Rattle.init.specs.Init.{fresh_header, fresh_shelf_table, fresh_item_table}
 use Rattle.search.specs.Search.{search, nothing, IsHeld}
 use Rattle.plan.specs.Plan.{plan_at, has_rows}

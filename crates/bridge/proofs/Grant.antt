@@ -1,8 +1,9 @@
 -- A grant as a whole. From the plan at the place that the search holds, with rows enough left for it, the step leads to the atlas that the rules make,
 -- and what the plan tells is the rules' answer. Assumes nothing.
-use Rattle.std.specs.Prelude.{◌+◌, ◌-◌, ◌≤◌, ◌<◌, ◌≡◌, ◌||◌, ◌∷◌}
+use Rattle.std.specs.Prelude.{◌+◌, ◌-◌, ◌≤◌, ◌<◌, ◌≡◌, ◌∷◌}
 use Rattle.numbers.specs.Library.{ℕ, refl, sym, ap, ◌∙◌, subst, inl, inr, Bool, true, false, List, [], List·Memᴰ·head, arith, ltb, length, ltb-false}
 use native.Mathlib.Nat.{mul-le-mul_left}
+use Rattle.std.proofs.lemmas.Bool.{or_parts}
 use Rattle.numbers.specs.declared.request.Asked.{Asked}
 use Rattle.numbers.specs.Prelude.{pick, Placeable, most_area}
 use Rattle.numbers.specs.declared.{index.ItemIndex.ItemIndex, limits.Limits.Limits}
@@ -17,7 +18,7 @@ use Rattle.rules.specs.Prelude.{Becomes}
 use Rattle.rules.specs.Grant.{count}
 use Rattle.laws.proofs.Shape.Around.{pick_cases}
 use Rattle.laws.proofs.Shape.Kept.{grant_shaped}
-use Rattle.shelf_edits.specs.State.{State, state}
+use Rattle.rows.specs.State.{State, state}
 use Rattle.live_rows.specs.Live.{at_row, live_of_rows}
 use Rattle.wrap.specs.Wrap.{plus16_is}
 use Rattle.shelf_edits.specs.ShelfEdits.{split_shelf}
@@ -41,14 +42,10 @@ use Rattle.bridge.proofs.GrantAtPlace.{before_grant, width_of, Placement, placem
 
 -- ---- the rows that the two splits need
 
-neither : (b c : Bool) → b || c ≡ false → (b ≡ false) × (c ≡ false)
-neither false c e = (refl, e)
-neither true c e = absurd (let z : ◌≡◌ {A = ℕ} 0 1 = cc in omega arith)
-
 pub enough : (room : Room) (r : Rows) (b c : Bool) → too_few_rows room r b c ≡ false → (count b ≤ rows_left_of room.shelves r.shelves) × (count b + count c ≤ rows_left_of room.items r.items)
 unfolding too_few_rows
 enough room r b c e =
-    let (s, i) = neither (ltb (rows_left_of room.shelves r.shelves) (count b)) (ltb (rows_left_of room.items r.items) (count b + count c)) e in
+    let (s, i) = or_parts (ltb (rows_left_of room.shelves r.shelves) (count b)) (ltb (rows_left_of room.items r.items) (count b + count c)) e in
     (ltb-false _ _ s, ltb-false _ _ i)
 
 -- a row less is left once one is taken

@@ -11,7 +11,7 @@ use Rattle.pool.specs.Pool.{new_item}
 use Rattle.rows.specs.declared.header.Header.{Header}
 use Rattle.rules.specs.Prelude.{Item, Shelf, Rows, Atlas, new_row, taken, rows_left_of, splits_item, item_taken, granted_item, grant_whole, grant_part, live_of}
 use Rattle.rules.specs.Prelude.{grants, grant_item, header_of, item_rows_of, all_item_rows, AllListed}
-use Rattle.shelf_edits.specs.State.{State}
+use Rattle.rows.specs.State.{State}
 use Rattle.live_rows.specs.Live.{at_row}
 use Rattle.plan.specs.declared.Plan.{Plan}
 use Rattle.grant.specs.Grant.{take_part, take_whole, take_item, takes_part, takes_whole}

@@ -3,7 +3,7 @@
 use Rattle.std.specs.Prelude.{◌≤◌}
 use Rattle.rows.specs.Prelude.{Past, past_same, past_more, past_then, items, shelves}
 use Rattle.rules.specs.Prelude.{Atlas}
-use Rattle.shelf_edits.specs.State.{State}
+use Rattle.rows.specs.State.{State}
 use Rattle.bridge.proofs.Stands.{Stands}
 
 pub record Leads (from to : State) (a : Atlas) : Type 0 where

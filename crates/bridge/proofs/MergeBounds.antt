@@ -66,7 +66,7 @@ above_deep : (m : Stack) → (((p : Shelf) (bs : List Shelf) → m.shelves.befor
 unfolding deeper
 above_deep m =
     above_cases (λ bs (k : Stack). ((p : Shelf) (cs : List Shelf) → bs ≡ p ∷ cs → JoinsWithin (depth_of k) p s) × (s.depth ≤ depth_of k)) s m.shelves.after m.rows
-    (λ p cs e. absurd (let z : ◌≡◌ {A = ℕ} 0 1 = cc in omega arith), omega arith)
+    (λ p cs e. cc, omega arith)
     (λ p bs j. (λ q cs e i. let f : p ≡ q = cc in omega (arith, ap (λ (x : Shelf). x.depth) f), omega arith))
     (λ p bs j. (λ q cs e. let f : p ≡ q = cc in rw (← f) (no_join s.depth p s j), omega arith))
     m.shelves.before
@@ -78,7 +78,7 @@ below_deep : (m : Stack) → (((n : Shelf) (ys : List Shelf) → m.shelves.after
 unfolding deeper
 below_deep m =
     below_cases (λ ys (k : Stack). ((n : Shelf) (zs : List Shelf) → ys ≡ n ∷ zs → JoinsWithin (depth_of k) s n) × (s.depth ≤ depth_of k)) m.shelves.before s m.rows
-    (λ p cs e. absurd (let z : ◌≡◌ {A = ℕ} 0 1 = cc in omega arith), omega arith)
+    (λ p cs e. cc, omega arith)
     (λ n ys j. (λ q cs e i. let f : n ≡ q = cc in omega (arith, ap (λ (x : Shelf). x.depth) f), omega arith))
     (λ n ys j. (λ q cs e. let f : n ≡ q = cc in rw (← f) (no_join s.depth s n j), omega arith))
     m.shelves.after

@@ -7,7 +7,7 @@ use Rattle.rows.specs.declared.header.Header.{Header}
 use Rattle.rules.specs.Prelude.{Atlas, Stores, room_in, WellFormed, Shaped, atlas_in, Becomes}
 use Rattle.laws.specs.Same.{SameUsed}
 use Rattle.laws.proofs.Stored.Reading.{reads, formed, unique, passes, determined, same_shelves, same_items}
-use Rattle.shelf_edits.specs.State.{State, state}
+use Rattle.rows.specs.State.{State, state}
 use Rattle.bridge.proofs.LeadsTo.{Leads}
 
 -- an atlas that lies in the tables and keeps its rules, with all past its used rows as it was

@@ -14,7 +14,7 @@ use Rattle.rules.proofs.LiveRows.{free_row}
 use Rattle.laws.proofs.Shape.Finding.{FoundAt}
 use Rattle.laws.proofs.Shape.Columns.{Placed, stacked_placed}
 use Rattle.laws.proofs.Shape.ReleaseShaped.{release_shape}
-use Rattle.shelf_edits.specs.State.{State, state}
+use Rattle.rows.specs.State.{State, state}
 use Rattle.live_rows.specs.Live.{at_row}
 use Rattle.merge.specs.Releasable.{Releasable}
 use Rattle.merge.specs.Merge.{merge_below as mergeBelowAt, merge_above as mergeAboveAt, release_item, release_at}

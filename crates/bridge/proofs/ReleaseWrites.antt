@@ -3,7 +3,7 @@ use Rattle.std.specs.Prelude.{◌<◌, ◌≡◌}
 use Rattle.numbers.specs.Library.{ℕ, inl}
 use Rattle.numbers.specs.declared.{index.ItemIndex.ItemIndex, index.ShelfIndex.ShelfIndex}
 use Rattle.rows.specs.Prelude.{Past, past_same, past_change, items, shelves, item_at}
-use Rattle.shelf_edits.specs.State.{State}
+use Rattle.rows.specs.State.{State}
 use Rattle.merge.specs.Merge.{release_item}
 use Rattle.merge.specs.Releasable.{Releasable, loosened_in}
 

@@ -11,7 +11,7 @@ use Rattle.pool.specs.Pool.{freed_item_row}
 use Rattle.rules.specs.Prelude.{Shelf, Freed, Atlas, item, free, freed_item_of, Holds, item_rows_of, all_item_rows, freed_rows, AllListed, FreeListed}
 use Rattle.rules.proofs.LiveRows.{free_row}
 use Rattle.laws.proofs.Stored.Determined.{live_or_free}
-use Rattle.shelf_edits.specs.State.{State}
+use Rattle.rows.specs.State.{State}
 use Rattle.bridge.proofs.Stands.{Stands, used_items_lem}
 use Rattle.rows.specs.Prelude.{Below, Linked, LinksWithin}
 

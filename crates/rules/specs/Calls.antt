@@ -1,11 +1,9 @@
 -- What each call comes to for an atlas that passed the audit, with the checks in document 01's order. Answer 3 is given before any of this, where
 -- the audit fails. Assumes nothing.
-use Rattle.std.specs.Prelude.{◌&&◌, ◌||◌, ◌∷◌, ◌++◌}
+use Rattle.std.specs.Prelude.{◌&&◌, ◌||◌, ◌∷◌, ◌++◌, Ok, Err}
 use Rattle.numbers.specs.Library.{ℕ, zero, suc, Bool, true, List, [], none, some, ℤ, ltb, length}
-use Rattle.numbers.specs.Prelude.{pick, asked, create_numbers, columns, space_left, first_axis, second_axis}
+use Rattle.numbers.specs.Prelude.{pick, asked, create_numbers, columns, space_left, first_axis, second_axis, refusal_number}
 use Rattle.numbers.specs.declared.limits.Limits.{Limits}
-use Rattle.numbers.specs.declared.limits.Limited.TheVariants.{Within, Refused as Beyond}
-use Rattle.numbers.specs.declared.request.Request.TheVariants.{Good, Refused}
 use Rattle.rows.specs.declared.live.Live.{Live}
 use Rattle.rules.specs.Atlas.{Shelf, Atlas, Room, is_empty_of, occupied, fresh}
 use Rattle.rules.specs.Outcome.{Outcome, refused, gives, Given}
@@ -21,7 +19,7 @@ make_within room l = pick (ltb room.shelves (columns l) || ltb room.items (colum
 unfoldable pub make : Room → ℤ → ℤ → ℤ → ℤ → ℤ → ℤ → Outcome Atlas
 unfolding create_numbers make_within
 make room w h alignWidth alignHeight vertical columns-asked =
-    elim (create_numbers w h alignWidth alignHeight vertical columns-asked) [ Beyond n ↦ refused n | Within l ↦ make_within room l ]
+    elim (create_numbers w h alignWidth alignHeight vertical columns-asked) [ Err e ↦ refused (refusal_number e) | Ok l ↦ make_within room l ]
 
 -- ---- allocate: 4 and 5 on the request, 6 and 7 on the atlas
 
@@ -29,8 +27,8 @@ unfoldable pub allocate : Room → Atlas → ℤ → ℤ → Outcome (Given Live
 unfolding asked grant
 allocate room a w h =
     elim (asked a.limits w h) [
-      | Refused n ↦ refused n
-      | Good q ↦ grant room a q
+      | Err e ↦ refused (refusal_number e)
+      | Ok q ↦ grant room a q
     ]
 
 -- ---- release and look-up: 8 where the row and generation name no live item

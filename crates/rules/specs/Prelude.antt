@@ -25,6 +25,7 @@ unfoldable pub use Rattle.rules.specs.Calls.{make_within, make, allocate, releas
 unfoldable pub use Rattle.rules.specs.Calls.{all_empty, clear}
 pub use Rattle.rules.specs.Step.{Call, Create, Allocate, Release, LookUp, ListIn, Clear, Occupied, FreeSpace, Size, IsEmpty, Totals, NoSuchId, Unreadable}
 pub use Rattle.rules.specs.Step.{Value, columns_made, done, items, count, area, space, sides, vacant, told_of}
-unfoldable pub use Rattle.rules.specs.Step.{tells, made_of, step_in, step_without, step, live_numbers, answer_numbers, is_create, atlas_after, run}
+unfoldable pub use Rattle.rules.specs.Step.{tells, made_of, step_in, step_without, step, answer_numbers, is_create, atlas_after, run}
 pub use Rattle.rules.specs.Promise.{Unchanged, Becomes, passes, Answering, Answers, Judged, fails, Comes}
 unfoldable pub use Rattle.rules.specs.Promise.{header_kept, Leaves, Asks, Promise}
+unfoldable pub use Rattle.rows.specs.Live.{live_numbers}

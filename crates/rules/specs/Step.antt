@@ -4,6 +4,7 @@ use Rattle.std.specs.Prelude.{◌∷◌}
 use Rattle.numbers.specs.Library.{ℕ, zero, suc, Bool, true, false, List, [], Option, none, some, ℤ, length}
 use Rattle.numbers.specs.Prelude.{pick, columns}
 use Rattle.rows.specs.declared.live.Live.{Live}
+use Rattle.rows.specs.Live.{live_numbers}
 use Rattle.rules.specs.Atlas.{Atlas, Room, occupied}
 use Rattle.rules.specs.Outcome.{Outcome, refused, gives, mapped, Given}
 use Rattle.rules.specs.Calls.{make, allocate, release, look_up, list_in, free_space, size_x, size_y, all_empty, clear}
@@ -91,9 +92,6 @@ step room none call = step_without room call
 step room (some a) call = step_in room a call
 
 -- ---- what is told, in document 01's numbers: "0 is success", "a refusal returns zeros besides its number"
-
-unfoldable pub live_numbers : Live → List ℕ
-live_numbers l = l.row ∷ l.generation ∷ l.x0 ∷ l.y0 ∷ l.x1 ∷ l.y1 ∷ []
 
 -- of a list the count is told; its records go to the lent list
 unfoldable pub value_numbers : Value → List ℕ

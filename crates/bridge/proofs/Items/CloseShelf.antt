@@ -5,19 +5,19 @@ use Rattle.numbers.specs.Library.{ℕ, refl, inl, inr, ⊎_elim, true, List, [],
 use Rattle.numbers.specs.Library.{Memᴰ·append-right, List·Memᴰ·append-cases, arith, ltb, lt-ltb}
 use Rattle.numbers.specs.Prelude.{no_row}
 use Rattle.numbers.specs.declared.index.ItemIndex.{ItemIndex}
-use Rattle.chains.specs.Prelude.{◌∈◌, Distinct, Apart, Each, back_onto, first_row, first_of}
+use Rattle.chains.specs.Prelude.{◌∈◌, Distinct, Apart, back_onto, first_row, first_of}
 use Rattle.chains.proofs.Prelude.{distinct_append, distinct_left, distinct_right, distinct_apart, onto_apart, apart_onto, in_onto, onto_in, gather_onto, self}
-use Rattle.chains.proofs.Prelude.{each_split, each_join, chain_frame, chain_replace}
+use Rattle.chains.proofs.Prelude.{each_join, chain_frame, chain_replace}
 use Rattle.rows.specs.Prelude.{rows, get, change, rows-change, shelves, with_first_free, with_empty, with_used_items, with_free_items, with_occupied}
 use Rattle.rows.specs.declared.header.Header.{Header}
 use Rattle.rules.specs.Prelude.{Item, Shelf, Freed, Pool, Atlas, is_empty_of, occupied, holding, shelf, item, freed_shelf, flag, Holds, Stores, header_of, room_in}
 use Rattle.rules.specs.Prelude.{shelf_rows_of, item_rows_of, all_item_rows, Sound, FreeListed, Shared}
 use Rattle.rules.proofs.Frames.{each_holds}
-use Rattle.shelf_edits.specs.State.{State, state}
+use Rattle.rows.specs.State.{State, state}
 use Rattle.shelf_edits.specs.ShelfEdits.{with_free}
 use Rattle.bridge.proofs.Items.RowViews.{reads}
 use Rattle.bridge.proofs.Items.PoolRows.{with_pool}
-use Rattle.bridge.proofs.Stands.{Stands, used_items_lem, used_shelves_lem}
+use Rattle.bridge.proofs.Stands.{Stands, Around, around, used_items_lem, used_shelves_lem}
 use Rattle.bridge.proofs.Items.OpenShelf.{Open}
 
 -- ---- the rows that serve, in two orders: those of one shelf before all others, and those of the shelves as they follow one another
@@ -83,39 +83,17 @@ module _ (st : State) (a : Atlas) (bs : List Shelf) (s : Shelf) (ys : List Shelf
   abbrev others : List ℕ
   others = all_item_rows bs ++ all_item_rows ys
 
-  held : Each (Holds I) bs × Each (Holds I) (s ∷ ys)
-  held = each_split (Holds I) bs (s ∷ ys) (rw are at stands.stored.shelf_items)
-
-  listings : Each FreeListed bs × Each FreeListed (s ∷ ys)
-  listings = each_split FreeListed bs (s ∷ ys) (rw are at stands.sound.free_listed)
-
-  -- the shelves before it, itself, and those after it
-  held_before : Each (Holds I) bs
-  held_before = held.0
-
-  held_here : Holds I s
-  held_here = held.1.0
-
-  held_after : Each (Holds I) ys
-  held_after = held.1.1
-
-  listed_before : Each FreeListed bs
-  listed_before = listings.0
-
-  listed_here : FreeListed s
-  listed_here = listings.1.0
-
-  listed_after : Each FreeListed ys
-  listed_after = listings.1.1
+  parts : Around I bs s ys
+  parts = around st a stands bs s ys are
 
   -- what an opened shelf asks is what stands in the tables, but for the order in which the rows in use are named
   pub open_shelf : Open I I s.row s.items s.free a.rows.items others
   open_shelf = record {
-    lie = held_here.in_order;
-    list = held_here.free_order;
-    live = held_here.live_unlinked;
-    free_once = rw self listed_here.once;
-    only = λ r m. listed_here.only r (rw self at m);
+    lie = parts.held_here.in_order;
+    list = parts.held_here.free_order;
+    live = parts.held_here.live_unlinked;
+    free_once = rw self parts.listed_here.once;
+    only = λ r m. parts.listed_here.only r (rw self at m);
     freed = stands.stored.freed_items_lem;
     shared = shared_same (item_rows_of s.items ++ others) (once_chain bs s ys (rw are at stands.sound.item_rows.serving_once))
         (λ r m. rw are (to_chain bs s ys r m)) (λ r m. from_chain bs s ys r (rw are at m)) stands.sound.item_rows;
@@ -143,9 +121,9 @@ module _ (st : State) (a : Atlas) (bs : List Shelf) (s : Shelf) (ys : List Shelf
           (rw are at stands.sound.shelf_rows.serving_once) (λ r m n. simp reads)
           (λ c. simp (reads, shelf_there) (rw c (cc (first, first-free-is, empty-flag-is)))) (rw are at stands.stored.shelf_chain);
       shelf_items = each_join (Holds I') bs (holding s is free-list ∷ ys)
-          (each_holds I I' bs listed_before (λ r m. opened.same r (Memᴰ·append-left (all_item_rows ys) m)) held_before) (
+          (each_holds I I' bs parts.listed_before (λ r m. opened.same r (Memᴰ·append-left (all_item_rows ys) m)) parts.held_before) (
             record { in_order = opened.lie; free_order = opened.list; live_unlinked = opened.live },
-            each_holds I I' ys listed_after (λ r m. opened.same r (Memᴰ·append-right (all_item_rows bs) m)) held_after,
+            each_holds I I' ys parts.listed_after (λ r m. opened.same r (Memᴰ·append-right (all_item_rows bs) m)) parts.held_after,
           );
       freed_shelves_lem = chain_frame freed_shelf (get shelves S) (get shelves (change shelves S s.row (with_free first_free empty-flag))) no_row a.rows.shelves.freed
           (λ r m. let n : r ≢ s.row = (λ q. ((stands.sound.shelf_rows.freed_exactly r).0 (rw self at m)).1 (Memᴰ·cast q s_in)) in simp reads) stands.stored.freed_shelves_lem;
@@ -156,7 +134,7 @@ module _ (st : State) (a : Atlas) (bs : List Shelf) (s : Shelf) (ys : List Shelf
     unfolding room_in holding
     close_sound = record {
       in_room = record { shelves = simp rows-change (used_shelves_lem st a stands); items = opened.room };
-      free_listed = each_join FreeListed bs (holding s is free-list ∷ ys) listed_before (record { once = rw self at opened.free_once; only = λ r m. opened.only r (rw self m) }, listed_after);
+      free_listed = each_join FreeListed bs (holding s is free-list ∷ ys) parts.listed_before (record { once = rw self at opened.free_once; only = λ r m. opened.only r (rw self m) }, parts.listed_after);
       shelf_rows = rw (gather_onto (λ (q : Shelf). q.row ∷ []) bs (holding s is free-list ∷ ys) (s ∷ ys) refl) (rw are at stands.sound.shelf_rows);
       item_rows = shared_same (all_item_rows (back_onto bs (holding s is free-list ∷ ys))) (chain_once bs (holding s is free-list) ys opened.shared.serving_once)
           (λ r m. from_chain bs (holding s is free-list) ys r m) (λ r m. to_chain bs (holding s is free-list) ys r m) opened.shared;

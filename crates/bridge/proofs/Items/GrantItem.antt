@@ -15,7 +15,7 @@ use Rattle.rules.specs.Prelude.{Item, Shelf, Freed, Pool, Atlas, is_empty_of, li
 use Rattle.rules.specs.Prelude.{holding, grant_whole, grant_part, item, flag, header_of, room_in, all_item_rows}
 use Rattle.rules.specs.Grant.{item_taken as itemRowTaken}
 use Rattle.wrap.specs.Wrap.{plus32, plus32_is}
-use Rattle.shelf_edits.specs.State.{State}
+use Rattle.rows.specs.State.{State}
 use Rattle.live_rows.specs.Live.{at_row}
 use Rattle.item_edits.specs.ItemEdits.{first_after}
 use Rattle.shelf_edits.specs.ShelfEdits.{with_free}

@@ -13,7 +13,8 @@ use Rattle.rules.specs.Prelude.{Item, Freed, Pool, Rows, replace_row, Loose, fre
 use Rattle.live_rows.specs.Live.{at_row}
 use Rattle.item_edits.specs.ItemEdits.{mark_free, unlist, enlist, join_next, first_after}
 use Rattle.merge_items.specs.MergeItems.{Loose as Loosened, is_free_item, absorb_next, merge_next as nextMerged, merge_into as intoMerged}
-use Rattle.laws.proofs.Shape.Around.{known_no as chosen-no}
+use Rattle.laws.proofs.Shape.Around.{known_yes, known_no}
+use Rattle.laws.proofs.Shape.Merging.{loose}
 use Rattle.bridge.proofs.Items.RowViews.{seen-prev, seen_next, seen_allocated, seen_next_free}
 use Rattle.bridge.proofs.Items.SumsAndFreeLists.{focus_of, replace_at, first_listed}
 use Rattle.bridge.proofs.Items.NoWrap.{widths, widths_onto}
@@ -22,18 +23,11 @@ use Rattle.bridge.proofs.Items.OpenShelf.{Open, some, listed, links_are}
 use Rattle.bridge.proofs.Items.MarkItem.{free_of, at_in, body_is}
 use Rattle.bridge.proofs.Items.ComposedEdits.{freed_open, push_open, next_open, into_open}
 
--- a choice that is known. (`rw e` with e : i.live ≡ b would take the record i apart.)
-pub chosen_yes : {X : Type 0} (P : X → Type 0) (b : Bool) (x y : X) → b ≡ true → P x → P (pick b x y)
-chosen_yes P b x y e p = rw e p
-
 -- the state of the steps is the state of the rules; all else of the header is as in h₀
 pub record Loosely (I₀ : List ℕ) (h₀ : Header) (on : ℕ) (others : List ℕ) (m : Loose) (c : Loosened) : Type 0 where
   pub open_at : Open I₀ c.items on (back_onto m.items.before (m.items.this ∷ m.items.after)) m.free m.rows.items others
   pub header : c.header ≡ with_pool m.rows.items h₀
   pub first : c.first ≡ at_row (first_of m.free)
-
-abbrev pub loose : List Item → Item → List Item → List ℕ → Rows → Loose
-loose ib i ia fl r = record { items = record { before = ib; this = i; after = ia }; free = fl; rows = r }
 
 -- with the item in this row marked free
 abbrev pub marked : Loosened → ℕ → Loosened
@@ -138,11 +132,11 @@ module _ (I₀ : List ℕ) (h₀ : Header) (on : ℕ) (others : List ℕ) (ib : 
 
     go : (b : Bool) → next-item.live ≡ b → Loosely I₀ h₀ on others (merge_next (loose ib i (next-item ∷ ia) fl r)) (nextMerged marked_now (at_row i.row))
     go true next-flag =
-        chosen_yes (λ m. Loosely I₀ h₀ on others m (nextMerged marked_now (at_row i.row))) next-item.live _ _ next-flag
+        known_yes (λ m. Loosely I₀ h₀ on others m (nextMerged marked_now (at_row i.row))) next-item.live _ _ next-flag
         (rw (next_kept marked_now (at_row i.row) (at_row next-item.row) reads (test true next-flag)) (record { open_at = opened; header = agree.header; first = agree.first }))
     go false next-flag =
-        let (fb, fa, free_are) = focus_of [] fl next-item.row (all next-item.row (in_onto free_of next-item.row (i ∷ ib) (next-item ∷ ia) (inr (chosen-no (λ x. next-item.row ∈ (x ++ gather free_of ia)) next-item.live _ _ next-flag (List·Memᴰ·head refl))))) in
-        chosen-no (λ m. Loosely I₀ h₀ on others m (nextMerged marked_now (at_row i.row))) next-item.live _ _ next-flag
+        let (fb, fa, free_are) = focus_of [] fl next-item.row (all next-item.row (in_onto free_of next-item.row (i ∷ ib) (next-item ∷ ia) (inr (known_no (λ x. next-item.row ∈ (x ++ gather free_of ia)) next-item.live _ _ next-flag (List·Memᴰ·head refl))))) in
+        known_no (λ m. Loosely I₀ h₀ on others m (nextMerged marked_now (at_row i.row))) next-item.live _ _ next-flag
         (rw (next_taken marked_now (at_row i.row) (at_row next-item.row) reads (test false next-flag)) (merged fb fa free_are))
 
 -- ---- the previous item
@@ -193,10 +187,10 @@ module _ (I₀ : List ℕ) (h₀ : Header) (on : ℕ) (others : List ℕ) (i : I
 
     go : (b : Bool) → previous.live ≡ b → Loosely I₀ h₀ on others (merge_into (loose (previous ∷ ib) i ia fl r)) (intoMerged steps (at_row i.row))
     go true previous-flag =
-        chosen_yes (λ m. Loosely I₀ h₀ on others m (intoMerged steps (at_row i.row))) previous.live _ _ previous-flag
+        known_yes (λ m. Loosely I₀ h₀ on others m (intoMerged steps (at_row i.row))) previous.live _ _ previous-flag
         (rw (into_pushed steps (at_row i.row) (at_row previous.row) reads (test true previous-flag), agree.first) (record { open_at = push_open (previous ∷ ib) i ia opened is_free out; header = agree.header; first = refl }))
     go false previous-flag =
-        chosen-no (λ m. Loosely I₀ h₀ on others m (intoMerged steps (at_row i.row))) previous.live _ _ previous-flag
+        known_no (λ m. Loosely I₀ h₀ on others m (intoMerged steps (at_row i.row))) previous.live _ _ previous-flag
         (rw (into_taken steps (at_row i.row) (at_row previous.row) reads (test false previous-flag) follows) (record {
           open_at = into_open ib previous i ia opened previous-flag out steps.header (head_of r.items h₀ steps.header agree.header) small;
           header = freed_header r.items h₀ steps.header (record { row = i.row; generation = i.generation }) agree.header;

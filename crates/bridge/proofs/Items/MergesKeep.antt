@@ -9,8 +9,8 @@ use Rattle.rules.specs.Prelude.{Item, Pool, Rows, live_area, replace_row, Loose,
 use Rattle.bridge.proofs.Items.SumsAndFreeLists.{area_onto, kept_in}
 use Rattle.bridge.proofs.Items.NoWrap.{widths, widths_onto}
 use Rattle.bridge.proofs.Items.OpenShelf.{listed}
-use Rattle.laws.proofs.Shape.Around.{known_no as chosen-no}
-use Rattle.bridge.proofs.Items.MergeItems.{loose, chosen_yes}
+use Rattle.laws.proofs.Shape.Around.{known_yes, known_no}
+use Rattle.laws.proofs.Shape.Merging.{loose}
 
 abbrev pub items_of : Loose → List Item
 items_of m = back_onto m.items.before (m.items.this ∷ m.items.after)
@@ -35,8 +35,8 @@ next_between ib i (n ∷ ia) fl r out = go n.live refl where
   fewer l m = rw self (kept_in i.row n.row l (rw self at m))
 
   go : (b : Bool) → n.live ≡ b → Between i.row (merge_next (loose ib i (n ∷ ia) fl r))
-  go true f = chosen_yes (Between i.row) n.live _ _ f (record { is_free = refl; same_row = refl; unlisted = out })
-  go false f = chosen-no (Between i.row) n.live _ _ f (record { is_free = refl; same_row = refl; unlisted = λ m. out (fewer fl m) })
+  go true f = known_yes (Between i.row) n.live _ _ f (record { is_free = refl; same_row = refl; unlisted = out })
+  go false f = known_no (Between i.row) n.live _ _ f (record { is_free = refl; same_row = refl; unlisted = λ m. out (fewer fl m) })
 
 module _ (first width : ℕ) (shelf_rows : Pool ℕ) where
   pub next_steady : (area area' : ℕ → ℕ) (ib : List Item) (i : Item) (ia : List Item) (fl : List ℕ) (r : Rows) → i.live ≡ true → ((d : ℕ) → area d ≡ area' d + i.width * d)
@@ -50,13 +50,13 @@ module _ (first width : ℕ) (shelf_rows : Pool ℕ) where
   }
   next_steady area area' ib i (next-item ∷ ia) fl r was_live sum was = go next-item.live refl where
     go : (b : Bool) → next-item.live ≡ b → Steady first width area' shelf_rows (merge_next (loose ib i (next-item ∷ ia) fl r))
-    go true next-flag = chosen_yes (Steady first width area' shelf_rows) next-item.live _ _ next-flag (record {
+    go true next-flag = known_yes (Steady first width area' shelf_rows) next-item.live _ _ next-flag (record {
       first_item = first_onto (item 0) ib (free_with i i.width) i (next-item ∷ ia) (next-item ∷ ia) refl ∙ was.first_item;
       live_area_lem = λ d. omega (arith, sum d, was.live_area_lem d, area_onto d ib (i ∷ next-item ∷ ia), area_onto d ib (free_with i i.width ∷ next-item ∷ ia), ap (λ (b : Bool). pick b (i.width * d) 0) was_live);
       as_wide = omega (arith, was.as_wide, widths_onto ib (i ∷ next-item ∷ ia), widths_onto ib (free_with i i.width ∷ next-item ∷ ia));
       same_shelves = was.same_shelves;
     })
-    go false next-flag = chosen-no (Steady first width area' shelf_rows) next-item.live _ _ next-flag (record {
+    go false next-flag = known_no (Steady first width area' shelf_rows) next-item.live _ _ next-flag (record {
       first_item = first_onto (item 0) ib (free_with i (i.width + next-item.width)) i ia (next-item ∷ ia) refl ∙ was.first_item;
       live_area_lem = λ d. omega (
         arith,
@@ -77,8 +77,8 @@ module _ (first width : ℕ) (shelf_rows : Pool ℕ) where
   into_steady area [] i ia fl r is_free was = record { first_item = was.first_item; live_area_lem = was.live_area_lem; as_wide = was.as_wide; same_shelves = was.same_shelves }
   into_steady area (previous ∷ ib) i ia fl r is_free was = go previous.live refl where
     go : (b : Bool) → previous.live ≡ b → Steady first width area shelf_rows (merge_into (loose (previous ∷ ib) i ia fl r))
-    go true previous-flag = chosen_yes (Steady first width area shelf_rows) previous.live _ _ previous-flag (record { first_item = was.first_item; live_area_lem = was.live_area_lem; as_wide = was.as_wide; same_shelves = was.same_shelves })
-    go false previous-flag = chosen-no (Steady first width area shelf_rows) previous.live _ _ previous-flag (record {
+    go true previous-flag = known_yes (Steady first width area shelf_rows) previous.live _ _ previous-flag (record { first_item = was.first_item; live_area_lem = was.live_area_lem; as_wide = was.as_wide; same_shelves = was.same_shelves })
+    go false previous-flag = known_no (Steady first width area shelf_rows) previous.live _ _ previous-flag (record {
       first_item = first_onto (item 0) ib (free_with previous (previous.width + i.width)) previous ia (i ∷ ia) refl ∙ was.first_item;
       live_area_lem = λ d. omega (
         arith,

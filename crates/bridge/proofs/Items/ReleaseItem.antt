@@ -2,7 +2,7 @@
 -- stands then is the rules' atlas at that point. Assumes nothing.
 use Rattle.std.specs.Prelude.{◌<◌, ◌≤◌, ◌+◌, ◌-◌, ◌*◌, ◌≡◌, ◌&&◌, ◌∷◌, ◌++◌}
 use Rattle.numbers.specs.Library.{ℕ, refl, sym, ap, ◌∙◌, subst, inr, Bool, true, false, not, List, []}
-use Rattle.numbers.specs.Library.{List·Memᴰ·head, arith, eqb, ne_eqb}
+use Rattle.numbers.specs.Library.{List·Memᴰ·head, and-false, arith, eqb, ne_eqb}
 use Rattle.numbers.specs.Prelude.{pick, no_row, most_area}
 use Rattle.numbers.specs.declared.index.ItemIndex.{ItemIndex}
 use Rattle.chains.specs.Prelude.{back_onto, first_row, first_of}
@@ -12,7 +12,7 @@ use Rattle.rows.specs.declared.{header.Header.Header, shelf.ShelfRow.ShelfRow}
 use Rattle.rules.specs.Prelude.{Item, Shelf, Freed, Pool, Atlas, is_empty_of, live_area, occupied, holding, Loose, Found, merge_next, merge_into, shelf, item, flag}
 use Rattle.rules.specs.Prelude.{header_of, all_item_rows, AllListed}
 use Rattle.wrap.specs.Wrap.{minus32_is}
-use Rattle.shelf_edits.specs.State.{State}
+use Rattle.rows.specs.State.{State}
 use Rattle.live_rows.specs.Live.{at_row, area_at}
 use Rattle.item_edits.specs.ItemEdits.{mark_free, unlist, enlist, join_next, first_after}
 use Rattle.shelf_edits.specs.ShelfEdits.{with_free}
@@ -48,11 +48,7 @@ one_free {I = I} (i ∷ []) o =
     go true = refl
     go false = refl
 one_free {I = I} (i ∷ j ∷ is) o =
-    rw (seen_next (get items I i.row) (body_is [] i (j ∷ is) o), ne_eqb j.row no_row (some o j.row (at_in (i ∷ []) j is o))) (go (eqb (get items I i.row).allocated 0))
-  where
-    go : (b : Bool) → (b && false) ≡ false
-    go true = refl
-    go false = refl
+    rw (seen_next (get items I i.row) (body_is [] i (j ∷ is) o), ne_eqb j.row no_row (some o j.row (at_in (i ∷ []) j is o))) (and-false _)
 
 loosen_step : (c : Loosened) (row : ℕ) → loosen c (at_row row) ≡ intoMerged (nextMerged (marked c row) (at_row row)) (at_row row)
 unfolding loosen intoMerged nextMerged is_free_item absorb_next unlist join_next enlist first_after mark_free

@@ -9,7 +9,7 @@ use Rattle.rows.specs.Prelude.{get, items, body_of, links_of}
 use Rattle.rows.specs.declared.live.Live.{Live}
 use Rattle.rules.specs.Prelude.{Item, Shelf, Rows, Atlas, occupied, standing, rows_left_of, splits_item, item_taken, granted_item, grant_whole, grant_part, live_of}
 use Rattle.rules.specs.Prelude.{grants, grant_item, item, room_in, all_item_rows}
-use Rattle.shelf_edits.specs.State.{State}
+use Rattle.rows.specs.State.{State}
 use Rattle.plan.specs.declared.Plan.{Plan}
 use Rattle.grant.specs.Grant.{take_item, takes_part, takes_whole}
 use Rattle.bridge.proofs.Items.RowViews.{seen-shelf}

@@ -1,7 +1,8 @@
 -- Look-up: an id names a live item of the tables exactly when it names one of the atlas, the answer tells the same of both, and each row that is
 -- read for it is there. Assumes nothing.
 use Rattle.std.specs.Prelude.{◌≤◌, ◌<◌, ◌≡◌, ◌&&◌, ◌∷◌}
-use Rattle.numbers.specs.Library.{ℕ, refl, sym, ap, ◌∙◌, inr, ⊎_elim, Bool, true, false, Option, none, some, List, [], List·Memᴰ·head}
+use Rattle.std.proofs.Math.Bool.{and_comm}
+use Rattle.numbers.specs.Library.{ℕ, refl, sym, ap, ◌∙◌, inr, ⊎_elim, true, false, Option, none, some, List, [], List·Memᴰ·head}
 use Rattle.numbers.specs.Library.{List·Memᴰ·not-nil, List·Memᴰ·cases-cons, Memᴰ·append-left, dec_lt, ℕ_discrete, arith, eqb, eq-eqb, ne_eqb, lt-ltb, le-ltb}
 use Rattle.numbers.specs.Prelude.{pick, no_row, both}
 use Rattle.rows.specs.Prelude.{rows, get, items, with_item_next, with_generation, shelves, Body, body_of}
@@ -44,12 +45,6 @@ module _ (h : Header) (S I : List ℕ) (a : Atlas) (stored : Stores h S I a) (so
 
 eqb_sym : (m n : ℕ) → eqb m n ≡ eqb n m
 eqb_sym m n = elim (ℕ_discrete m n) [ yes e ↦ eq-eqb m n e ∙ sym (eq-eqb n m (sym e)) | no d ↦ ne_eqb m n d ∙ sym (ne_eqb n m (λ e. d (sym e))) ]
-
-turned : (b c : Bool) → b && c ≡ c && b
-turned true true = refl
-turned true false = refl
-turned false true = refl
-turned false false = refl
 
 module _ (h : Header) (S I : List ℕ) (a : Atlas) (stored : Stores h S I a) (formed : WellFormed (room_in S I) a) where
   -- what the tables say of an item that is found
@@ -106,7 +101,7 @@ module _ (h : Header) (S I : List ℕ) (a : Atlas) (stored : Stores h S I a) (fo
       let body = item_says h S I a stored formed.sound spot (found.0, found.1, refl) in
       let g : (get items I row).generation ≡ i.generation = rw (sym found.2) (ap (λ (b : Body). b.generation) body) in
       rw (used_is, lt-ltb row a.rows.items.used (found_used spot row found), allocated_says spot row found, g, flag_one i.live, eq-eqb row i.row (sym found.2), eqb_sym generation i.generation)
-      (turned i.live (eqb i.generation generation))
+      (and_comm i.live (eqb i.generation generation))
 
   dead : (row generation : ℕ) → row < a.rows.items.used → (row ∈ all_item_rows a.shelves → ⊥) → table.is_live_of h I row generation ≡ false
   unfolding table.is_live_of

@@ -59,11 +59,6 @@ held_rows rule.nothing = table.nothing
 held_rows (rule.good f r) = table.good (record { shelf = record { 0 = f.this.row }; item = record { 0 = r } }) f.this.depth
 held_rows (rule.bad f r) = table.bad (record { shelf = record { 0 = f.this.row }; item = record { 0 = r } })
 
--- a shelf's row says whether it is empty
-pub empty_says : (p n : ℕ) (s : Shelf) → table.shelf_is_empty (shelf.says p s n) ≡ is_empty_of s.items
-unfolding table.shelf_is_empty
-empty_says p n s = flag_one (is_empty_of s.items)
-
 bad_says : (a : Asked) (p n : ℕ) (s : Shelf) → table.is_bad_fit (good_fit_to a.depth) (shelf.says p s n) ≡ rule.is_bad_fit a s
 unfolding table.is_bad_fit rule.is_bad_fit table.shelf_is_empty
 bad_says a p n s = rw (flag_one (is_empty_of s.items))

@@ -6,23 +6,15 @@ use Rattle.numbers.specs.declared.request.Asked.{Asked}
 use Rattle.chains.specs.Prelude.{back_onto}
 use Rattle.rows.specs.Prelude.{rows, get, items, shelves}
 use Rattle.rules.specs.Prelude.{Shelf, Atlas, is_empty_of, splits_shelf, upper_part, lower_part, shelf_taken, item_taken, rows_left_of}
-use Rattle.shelf_edits.specs.State.{State}
-use Rattle.search.specs.Search.{shelf_is_empty}
-use Rattle.plan.specs.Plan.{splits_shelf as splitsRow}
+use Rattle.rows.specs.State.{State}
 use Rattle.plan.specs.declared.Plan.{Plan}
 use Rattle.grant.specs.Grant.{fit_shelf, fits_split}
-use Rattle.bridge.proofs.Stands.{Stands, on_row, shelf_says}
+use Rattle.bridge.proofs.Stands.{Stands, on_row}
 use Rattle.bridge.proofs.LeadsTo.{Leads}
-use Rattle.rules.proofs.Flags.{flag_one}
 use Rattle.bridge.proofs.Shelves.EmptyShelf.{lone_item_lem}
 use Rattle.bridge.proofs.Shelves.Split.{split_leads}
 
 module _ (st : State) (a : Atlas) (bs : List Shelf) (s : Shelf) (ys : List Shelf) (asked : Asked) (are : a.shelves ≡ back_onto bs (s ∷ ys)) (stands : Stands st a) where
-  -- it is split or not as the rules say
-  pub splits_shelf_same : splitsRow asked (get shelves st.shelves s.row) ≡ splits_shelf asked s
-  unfolding splitsRow splits_shelf shelf_is_empty
-  splits_shelf_same = rw (shelf_says st a stands bs s ys are) (rw (flag_one (is_empty_of s.items)))
-
   -- a shelf that is split is empty and deep enough, so its one free item is that of the upper part
   pub fit_split : splits_shelf asked s ≡ true → s.y + s.depth < 2 ^ 16
       → 0 < rows_left_of (rows shelves st.shelves) a.rows.shelves → 0 < rows_left_of (rows items st.items) a.rows.items

@@ -10,10 +10,11 @@ use Rattle.rows.specs.Prelude.{get, rows_few, get_out, shelves, shelf_at_of}
 use Rattle.rows.specs.declared.shelf.ShelfRow.{ShelfRow}
 use Rattle.rules.specs.Prelude.{Item, Shelf, Rows, Atlas, is_empty_of, Stack, freeing, free_item_row, free_shelf_row, free_shelf, deeper, joins, merge_below, merge_above}
 use Rattle.rules.specs.Prelude.{shelf}
-use Rattle.shelf_edits.specs.State.{State}
+use Rattle.rows.specs.State.{State}
 use Rattle.search.specs.Search.{shelf_is_empty}
 use Rattle.shelf_edits.specs.ShelfEdits.{merge_shelves}
 use Rattle.merge.specs.Merge.{joins as joins_at, merge_below as mergeBelowAt, merge_above as mergeAboveAt}
+use Rattle.laws.proofs.Shape.Merging.{stack}
 use Rattle.bridge.proofs.Stands.{Stands, on_row, shelf_says}
 use Rattle.rules.proofs.Flags.{flag_one}
 use Rattle.bridge.proofs.Shelves.EmptyShelf.{lone_item_lem}
@@ -23,9 +24,6 @@ use Rattle.bridge.proofs.LeadsTo.{Leads, leads_same, leads_then}
 -- the atlas of a stack
 abbrev pub stacked : Limits → Stack → Atlas
 stacked l m = record { limits = l; shelves = back_onto m.shelves.before (m.shelves.this ∷ m.shelves.after); rows = m.rows }
-
-abbrev stack : List Shelf → Shelf → List Shelf → Rows → Stack
-stack bs s ys r = record { shelves = record { before = bs; this = s; after = ys }; rows = r }
 
 -- two shelves that join are together no deeper than a row can say
 abbrev pub Low : Shelf → Shelf → Type 0

@@ -5,7 +5,7 @@ use Rattle.numbers.specs.Library.{ℕ, refl, sym, ap, ◌∙◌, inl, inr, true,
 use Rattle.numbers.specs.Library.{List·Memᴰ·tail, Memᴰ·cast, Memᴰ·append-left, Memᴰ·append-right, arith, ltb}
 use Rattle.numbers.specs.Prelude.{no_row}
 use Rattle.chains.specs.Prelude.{◌∈◌, Distinct, Each, back_onto, first_row, Chain}
-use Rattle.chains.proofs.Prelude.{distinct_right, distinct_apart, onto_apart, in_onto, self, each_split, each_join, chain_any, chain_frame, ne_first}
+use Rattle.chains.proofs.Prelude.{distinct_right, distinct_apart, onto_apart, in_onto, self, each_join, chain_any, chain_frame, ne_first}
 use Rattle.chains.proofs.Prelude.{chain_drop, rows_drop}
 use Rattle.rows.specs.Prelude.{rows, get, put, rows-put, change, rows-change, Past, past_same, past_put, past_change, items, shelves, with_height, with_shelf_prev}
 use Rattle.rows.specs.Prelude.{with_shelf_next, with_free_items, with_free_shelves, body_of}
@@ -15,10 +15,10 @@ use Rattle.rules.specs.Prelude.{Item, Shelf, Freed, Atlas, live_area, occupied, 
 use Rattle.rules.specs.Prelude.{freed_item_of, Holds, header_of, Stores, room_in, shelf_rows_of, item_rows_of, all_item_rows, freed_rows, FreeListed, Sound}
 use Rattle.rules.proofs.Frames.{holds_frame, each_holds}
 use Rattle.wrap.specs.Wrap.{plus16_is}
-use Rattle.shelf_edits.specs.State.{State, state}
+use Rattle.rows.specs.State.{State, state}
 use Rattle.shelf_edits.specs.ShelfEdits.{with_reach, join_shelves, merge_shelves}
 use Rattle.bridge.proofs.Items.RowViews.{reads, seen_generation}
-use Rattle.bridge.proofs.Stands.{Stands, on_row, used_shelves_lem, used_items_lem, shelf_says, shelf_some, shelf_there, item_there, first_used}
+use Rattle.bridge.proofs.Stands.{Stands, Around, around, on_row, used_shelves_lem, used_items_lem, shelf_says, shelf_some, shelf_there, item_there, first_used}
 use Rattle.bridge.proofs.Items.SumsAndFreeLists.{occupied_onto}
 use Rattle.bridge.proofs.Items.PoolRows.{freed_shared}
 use Rattle.bridge.proofs.LeadsTo.{Leads}
@@ -147,27 +147,22 @@ module _ (st : State) (a : Atlas) (bs : List Shelf) (upper lower : Shelf) (ys : 
   item_in : lower-item.row ∈ all_item_rows a.shelves
   item_in = rw are (in_onto (λ (q : Shelf). item_rows_of q.items) lower-item.row bs (upper ∷ lower ∷ ys) (inr item_here))
 
-  held : Each (Holds I) bs × Each (Holds I) (upper ∷ lower ∷ ys)
-  held = each_split (Holds I) bs (upper ∷ lower ∷ ys) (rw are at stored.shelf_items)
-
-  listings : Each FreeListed bs × Each FreeListed (upper ∷ lower ∷ ys)
-  listings = each_split FreeListed bs (upper ∷ lower ∷ ys) (rw are at sound.free_listed)
+  parts : Around I bs upper (lower ∷ ys)
+  parts = around st a stands bs upper (lower ∷ ys) are
 
   -- one item row is written, the lower shelf's, which is none of the rows of the other shelves
   new_items : Each (Holds I') (back_onto bs (deepened ∷ ys))
   unfolding deeper
   new_items =
-      let (held_before, held-from) = held in
-      let (listed_before, listed-from) = listings in
       let (once-before, once-from, apart) = onto_apart (λ (q : Shelf). item_rows_of q.items) bs (upper ∷ lower ∷ ys) (rw are at sound.item_rows.serving_once) in
       let once_lower : Distinct (item_rows_of lower.items ++ all_item_rows ys) = distinct_right (item_rows_of upper.items) (all_item_rows (lower ∷ ys)) once-from in
       let its_item_in : lower-item.row ∈ item_rows_of lower.items = rw lone (List·Memᴰ·head refl) in
-      let upper_holds : Holds I' upper = holds_frame I I' upper listed-from.0
-      (λ r m. item_same r (λ e. distinct_apart (item_rows_of upper.items) (all_item_rows (lower ∷ ys)) once-from r m (Memᴰ·append-left (all_item_rows ys) (Memᴰ·cast e its_item_in)))) held-from.0 in
+      let upper_holds : Holds I' upper = holds_frame I I' upper parts.listed_here
+      (λ r m. item_same r (λ e. distinct_apart (item_rows_of upper.items) (all_item_rows (lower ∷ ys)) once-from r m (Memᴰ·append-left (all_item_rows ys) (Memᴰ·cast e its_item_in)))) parts.held_here in
       each_join (Holds I') bs (deepened ∷ ys)
-      (each_holds I I' bs listed_before (λ r m. item_same r (λ e. apart r m (Memᴰ·cast e item_here))) held_before) (
+      (each_holds I I' bs parts.listed_before (λ r m. item_same r (λ e. apart r m (Memᴰ·cast e item_here))) parts.held_before) (
         record { in_order = upper_holds.in_order; free_order = upper_holds.free_order; live_unlinked = upper_holds.live_unlinked },
-        each_holds I I' ys listed-from.1.1 (λ r m. item_same r (λ e. distinct_apart (item_rows_of lower.items) (all_item_rows ys) once_lower r (Memᴰ·cast e its_item_in) m)) held-from.1.1,
+        each_holds I I' ys parts.listed_after.1 (λ r m. item_same r (λ e. distinct_apart (item_rows_of lower.items) (all_item_rows ys) once_lower r (Memᴰ·cast e its_item_in) m)) parts.held_after.1,
       )
 
   abbrev freed_item : Freed
@@ -176,7 +171,7 @@ module _ (st : State) (a : Atlas) (bs : List Shelf) (upper lower : Shelf) (ys : 
   new_freed_items : Chain freed_item_of (get items I') no_row (freed_item ∷ a.rows.items.freed)
   unfolding header_of
   new_freed_items =
-      let lower_holds : Holds I lower = held.1.1.0 in
+      let lower_holds : Holds I lower = parts.held_after.0 in
       let lie : Chain (item lower.row) (λ r. body_of (get items I r)) no_row (lower-item ∷ []) = rw lone at lower_holds.in_order in
       let generation_is : (get items I lower-item.row).generation ≡ lower-item.generation = seen_generation (get items I lower-item.row) lie.0 in (
         simp (reads, item_there st a stands lower-item.row item_in) (rw generation_is (ap (λ (q : Header). freed_item_row q.free_items lower-item.generation) stored.header)),
@@ -233,10 +228,9 @@ module _ (st : State) (a : Atlas) (bs : List Shelf) (upper lower : Shelf) (ys : 
   merge_sound =
       let (shelves_once, shelf-was, shelves-to, shelves-from) = rows_drop (λ (q : Shelf). q.row ∷ []) bs upper deepened lower ys lower.row refl refl shelf_once in
       let (items_once, item-was, items-to, items_from) = rows_drop (λ (q : Shelf). item_rows_of q.items) bs upper deepened lower ys lower-item.row refl (rw lone) (rw are at sound.item_rows.serving_once) in
-      let (listed_before, listed-from) = listings in
       rw (merge_is, freed_is) (record {
         in_room = record { shelves = simp (rows-change, rows-put) (used_shelves_lem st a stands); items = simp rows-put (used_items_lem st a stands) };
-        free_listed = each_join FreeListed bs (deepened ∷ ys) listed_before (record { once = listed-from.0.once; only = listed-from.0.only }, listed-from.1.1);
+        free_listed = each_join FreeListed bs (deepened ∷ ys) parts.listed_before (record { once = parts.listed_here.once; only = parts.listed_here.only }, parts.listed_after.1);
         shelf_rows = freed_shared a.rows.shelves.used (shelf_rows_of (back_onto bs (upper ∷ lower ∷ ys))) (shelf_rows_of (back_onto bs (deepened ∷ ys))) a.rows.shelves.freed lower.row (rw are at sound.shelf_rows) shelf-was shelves_once shelves-to shelves-from;
         item_rows = freed_shared a.rows.items.used (all_item_rows (back_onto bs (upper ∷ lower ∷ ys))) (all_item_rows (back_onto bs (deepened ∷ ys))) (freed_rows a.rows.items.freed) lower-item.row (rw are at sound.item_rows) item-was items_once items-to items_from;
       })

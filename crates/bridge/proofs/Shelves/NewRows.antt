@@ -7,7 +7,7 @@ use Rattle.rows.specs.Prelude.{rows, put, items, with_generation, shelves, with_
 use Rattle.pool.specs.Pool.{new_item, add_item, new_shelf, shelf_taken, item_taken}
 use Rattle.rows.specs.declared.{header.Header.Header, item.ItemRow.ItemRow}
 use Rattle.rules.specs.Prelude.{Freed, Pool, Atlas, new_row, new_generation, taken, rows_left_of, header_of, shelf_rows_of, all_item_rows}
-use Rattle.shelf_edits.specs.State.{State}
+use Rattle.rows.specs.State.{State}
 use Rattle.bridge.proofs.Stands.{Stands, on_row, used_shelves_lem, used_items_lem}
 use Rattle.bridge.proofs.Items.PoolRows.{shelf_row_of, freed_row, with_pool, Fresh, fresh, item_new, item_generation, item_header, shelf_fresh, shelf_new}
 use Rattle.bridge.proofs.Items.PoolRows.{shelf_header}

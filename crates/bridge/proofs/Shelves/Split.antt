@@ -6,7 +6,7 @@ use Rattle.numbers.specs.Library.{List·Memᴰ·not-nil, Memᴰ·cast, Memᴰ·a
 use Rattle.numbers.specs.Prelude.{no_row}
 use Rattle.numbers.specs.declared.index.ShelfIndex.{ShelfIndex}
 use Rattle.chains.specs.Prelude.{◌∈◌, Each, back_onto, first_row, Chain}
-use Rattle.chains.proofs.Prelude.{not_out, in_onto, self, each_split, each_join, chain_frame, ne_first, chain_insert, rows_insert}
+use Rattle.chains.proofs.Prelude.{not_out, in_onto, self, each_join, chain_frame, ne_first, chain_insert, rows_insert}
 use Rattle.rows.specs.Prelude.{rows, get, put, rows-put, rows_few, change, rows-change, Past, past_same, past_put, past_change, items, with_generation, shelves}
 use Rattle.rows.specs.Prelude.{with_y, with_height, with_shelf_prev, with_shelf_next, with_first_item, with_first_free, with_empty, with_used_items, with_used_shelves}
 use Rattle.rows.specs.Prelude.{with_free_items, with_free_shelves, body_of, links_of}
@@ -17,11 +17,11 @@ use Rattle.rules.specs.Prelude.{upper_part, lower_part, rows_left_of, shelf, fre
 use Rattle.rules.specs.Prelude.{freed_rows, FreeListed, Shared, Sound}
 use Rattle.rules.proofs.Frames.{holds_frame, each_holds}
 use Rattle.wrap.specs.Wrap.{plus16_is, minus16_is}
-use Rattle.shelf_edits.specs.State.{State, state}
+use Rattle.rows.specs.State.{State, state}
 use Rattle.item_edits.specs.ItemEdits.{lone_item}
 use Rattle.shelf_edits.specs.ShelfEdits.{with_reach, lower_of, split_shelf_table, split_shelf}
 use Rattle.bridge.proofs.Items.RowViews.{reads, body_lone, body-lone_item, links-lone_item}
-use Rattle.bridge.proofs.Stands.{Stands, on_row, shelf_says, shelf_width-is, shelf_some, shelf_there, first_used}
+use Rattle.bridge.proofs.Stands.{Stands, Around, around, on_row, shelf_says, shelf_width-is, shelf_some, shelf_there, first_used}
 use Rattle.bridge.proofs.Items.SumsAndFreeLists.{occupied_onto}
 use Rattle.bridge.proofs.Items.PoolRows.{shelf_row_of, freed_row, with_pool, Fresh, taken_shared, taken_chain, shelf_shared}
 use Rattle.bridge.proofs.LeadsTo.{Leads}
@@ -188,30 +188,8 @@ module _ (st : State) (a : Atlas) (bs : List Shelf) (s : Shelf) (ys : List Shelf
   item_there : get items I' new_item-row ≡ lone_row
   item_there = simp (reads, lt-ltb new_item-row (rows items I) unserved_item.there)
 
-  held : Each (Holds I) bs × Each (Holds I) (s ∷ ys)
-  held = each_split (Holds I) bs (s ∷ ys) (rw are at stored.shelf_items)
-
-  listings : Each FreeListed bs × Each FreeListed (s ∷ ys)
-  listings = each_split FreeListed bs (s ∷ ys) (rw are at sound.free_listed)
-
-  -- the shelves before it, itself, and those after it
-  held_before : Each (Holds I) bs
-  held_before = held.0
-
-  held_here : Holds I s
-  held_here = held.1.0
-
-  held_after : Each (Holds I) ys
-  held_after = held.1.1
-
-  listed_before : Each FreeListed bs
-  listed_before = listings.0
-
-  listed_here : FreeListed s
-  listed_here = listings.1.0
-
-  listed_after : Each FreeListed ys
-  listed_after = listings.1.1
+  parts : Around I bs s ys
+  parts = around st a stands bs s ys are
 
   serving_same : (r : ℕ) → (r ∈ all_item_rows bs) ⊎ (r ∈ all_item_rows (s ∷ ys)) → get items I' r ≡ get items I r
   serving_same r o = item_same r (λ e. unserved_item.out (Memᴰ·cast (sym e) (rw are (in_onto (λ (q : Shelf). item_rows_of q.items) r bs (s ∷ ys) o))))
@@ -226,10 +204,10 @@ module _ (st : State) (a : Atlas) (bs : List Shelf) (s : Shelf) (ys : List Shelf
 
   new_items : Each (Holds I') (back_onto bs (upper ∷ lower ∷ ys))
   new_items =
-      let o : Holds I' s = holds_frame I I' s listed_here (λ r m. serving_same r (inr (Memᴰ·append-left (all_item_rows ys) m))) held_here in
-      each_join (Holds I') bs (upper ∷ lower ∷ ys) (each_holds I I' bs listed_before (λ r m. serving_same r (inl m)) held_before) (
+      let o : Holds I' s = holds_frame I I' s parts.listed_here (λ r m. serving_same r (inr (Memᴰ·append-left (all_item_rows ys) m))) parts.held_here in
+      each_join (Holds I') bs (upper ∷ lower ∷ ys) (each_holds I I' bs parts.listed_before (λ r m. serving_same r (inl m)) parts.held_before) (
         record { in_order = o.in_order; free_order = o.free_order; live_unlinked = o.live_unlinked },
-        (lower_holds, each_holds I I' ys listed_after (λ r m. serving_same r (inr (Memᴰ·append-right (item_rows_of s.items) m))) held_after),
+        (lower_holds, each_holds I I' ys parts.listed_after (λ r m. serving_same r (inr (Memᴰ·append-right (item_rows_of s.items) m))) parts.held_after),
       )
 
   new_freed_items : Chain freed_item_of (get items I') no_row (taken item_pool).freed
@@ -279,8 +257,8 @@ module _ (st : State) (a : Atlas) (bs : List Shelf) (s : Shelf) (ys : List Shelf
   unfolding room_in
   new_sound = record {
     in_room = record { shelves = simp (rows-change, rows-put) unserved_shelf.in_room; items = simp rows-put unserved_item.in_room };
-    free_listed = each_join FreeListed bs (upper ∷ lower ∷ ys) listed_before
-        (record { once = listed_here.once; only = listed_here.only }, (record { once = (λ m. List·Memᴰ·not-nil m, tt); only = λ r m. m }, listed_after));
+    free_listed = each_join FreeListed bs (upper ∷ lower ∷ ys) parts.listed_before
+        (record { once = parts.listed_here.once; only = parts.listed_here.only }, (record { once = (λ m. List·Memᴰ·not-nil m, tt); only = λ r m. m }, parts.listed_after));
     shelf_rows = new_shelf-rows;
     item_rows = new_item-rows;
   }

@@ -7,6 +7,9 @@ use Rattle.chains.specs.Prelude.{Neighbours, back_onto}
 -- ---- choices
 
 -- a choice that is known. (`rw e` with e : i.live ≡ b would take the record i apart.)
+pub known_yes : {X : Type 0} (P : X → Type 0) (b : Bool) (x y : X) → b ≡ true → P x → P (pick b x y)
+known_yes P b x y e p = rw e p
+
 pub known_no : {X : Type 0} (P : X → Type 0) (b : Bool) (x y : X) → b ≡ false → P y → P (pick b x y)
 known_no P b x y e p = rw e p
 

@@ -211,7 +211,7 @@ module _ (v : Live) (before after : List Live) (other : Each (λ u. v.row ≢ u.
       of_row-append v.row before (v ∷ after) ∙ rw (eq-eqb v.row v.row refl) (alone (of_row v.row before) (of_row v.row after) none_left) where
         alone : (us ws : List Live) → us ++ ws ≡ [] → us ++ (v ∷ ws) ≡ v ∷ []
         alone [] ws e = rw e
-        alone (u ∷ us) ws e = absurd (let z : ◌≡◌ {A = ℕ} 0 1 = cc in omega arith)
+        alone (u ∷ us) ws e = cc
 
   up_to_it : (n : ℕ) → n ≤ v.row → below (before ++ (v ∷ after)) n ≡ below (before ++ after) n
   up_to_it zero h = refl

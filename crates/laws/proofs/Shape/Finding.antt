@@ -1,5 +1,6 @@
 -- What a look for a row finds, and what the search for a place finds. Assumes nothing.
 use Rattle.std.specs.Prelude.{◌≤◌, ◌≡◌, ◌≢◌, ◌&&◌, ◌||◌, ◌∷◌}
+use Rattle.std.proofs.lemmas.Bool.{or_parts}
 use Rattle.numbers.specs.Library.{ℕ, refl, sym, ⊎_elim, Bool, true, false, Option, none, some, List, [], List·Memᴰ·head}
 use Rattle.numbers.specs.Library.{List·Memᴰ·tail, List·Memᴰ·not-nil, List·Memᴰ·cases-cons, List·Memᴰ·append-cases, ℕ_discrete, leb, ltb, eqb, eq-eqb, ne_eqb}
 use Rattle.numbers.specs.Library.{leb-true, ltb-false}
@@ -114,10 +115,7 @@ module _ (asked : Asked) (shelves : List Shelf) (f : Focus Shelf) (stands : shel
   enough : (held : Held) → passed_by asked held f.this ≡ false → asked.depth ≤ f.this.depth
   unfolding passed_by
   enough nothing e = ltb-false f.this.depth asked.depth e
-  enough (good g row) e = ltb-false f.this.depth asked.depth (left (ltb f.this.depth asked.depth) _ e) where
-    left : (b c : Bool) → b || c ≡ false → b ≡ false
-    left false c e = refl
-    left true c e = e
+  enough (good g row) e = ltb-false f.this.depth asked.depth (or_parts (ltb f.this.depth asked.depth) _ e).0
   enough (bad b row) e = ltb-false f.this.depth asked.depth e
 
   looked_holds : (held : Held) → Holding asked shelves held → Holding asked shelves (looked asked held f)

@@ -1,5 +1,5 @@
 -- What the atlas-level calls keep and what they find, in one place. Assumes nothing.
-use Rattle.std.specs.Prelude.{◌≤◌, ◌+◌, ◌≡◌, ◌⊎◌, ◌&&◌}
+use Rattle.std.specs.Prelude.{◌≤◌, ◌+◌, ◌≡◌, ◌⊎◌, ◌&&◌, Ok}
 use Rattle.numbers.specs.Library.{ℕ, zero, suc, refl, sym, ap, ◌∙◌, subst, ℤ, ⊎_elim, some, List, [], arith, eqb, eqb-true}
 use Rattle.numbers.specs.declared.{limits.Limits.Limits, request.Asked.Asked}
 use Rattle.rows.specs.declared.live.Live.{Live}
@@ -10,7 +10,6 @@ use Rattle.laws.specs.Places.{Fits, Chosen, NoPlace, TooFew}
 use Rattle.laws.specs.Lives.{flat, lives_on, lives, OneMore, NoPixelShared, Pairs, Inside, Enough, Covered, area, areas}
 use Rattle.numbers.specs.Prelude.{both, columns, WithinLimits, Placeable}
 use Rattle.numbers.specs.Prelude.{asked as request}
-use Rattle.numbers.specs.declared.request.Request.TheVariants.{Good}
 use Rattle.laws.proofs.Shape.Fresh.{rows-sound, fresh_shape}
 use Rattle.laws.proofs.Shape.Finding.{Holding, search_holding, FoundLive, find_live_lem}
 use Rattle.laws.proofs.Shape.Granting.{Grants, fits_found, granted_so, place_so, grant_so}
@@ -107,7 +106,7 @@ grant_covers room a asked live a' formed e =
     granted_so (λ v a'. Enough a.limits asked v) (grant room a asked) live a' (grant_enough room a asked formed.sound) e
 
 -- and, of a request's raw sides, these too
-pub covers_raw : (l : Limits) (asked : Asked) → WithinLimits l → (w height : ℤ) (live : Live) → request l w height ≡ Good asked → Enough l asked live → Covered w height live
+pub covers_raw : (l : Limits) (asked : Asked) → WithinLimits l → (w height : ℤ) (live : Live) → request l w height ≡ Ok asked → Enough l asked live → Covered w height live
 covers_raw = raw-sides.covers_raw
 
 -- a grant adds one and moves none

@@ -1,6 +1,6 @@
 -- A grant adds one live rectangle and a release takes one away; the others stay where they are. Assumes nothing.
 use Rattle.std.specs.Prelude.{◌+◌, ◌≡◌, ◌∷◌, ◌++◌}
-use Rattle.numbers.specs.Library.{ℕ, refl, ap, ◌∙◌, true, false, some, List, [], append_assoc, arith, not-true}
+use Rattle.numbers.specs.Library.{ℕ, refl, ap, ◌∙◌, true, false, some, List, [], append_assoc, not-true}
 use Rattle.numbers.specs.Prelude.{pick_yes, pick_no, both}
 use Rattle.numbers.specs.declared.{limits.Limits.Limits, request.Asked.Asked}
 use Rattle.rows.specs.declared.live.Live.{Live}
@@ -41,7 +41,7 @@ module _ (l : Limits) (s : Shelf) where
   unfolding is_empty_of
   empty_none [] e = refl
   empty_none (i ∷ []) e = rw (free_none i (not-true i.live e))
-  empty_none (i ∷ j ∷ items) e = let z : ◌≡◌ {A = ℕ} 0 1 = cc in absurd (omega arith)
+  empty_none (i ∷ j ∷ items) e = cc
 
   -- a live item put where a free one was
   put_in : (ib : List Item) (i g : Item) (ia ga : List Item) → i.live ≡ false → g.live ≡ true → flat (live_in l s) ga ≡ flat (live_in l s) ia

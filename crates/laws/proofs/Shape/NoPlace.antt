@@ -59,7 +59,7 @@ none_wide width items [] e r m = absurd (List·Memᴰ·not-nil m)
 none_wide width items (q ∷ free) e r m = go (leb width (width_of q items)) refl e (none_wide width items free) where
   go : (b : Bool) → leb width (width_of q items) ≡ b → pick b (some q) (first_wide width items free) ≡ none
       → (first_wide width items free ≡ none → (r : ℕ) → r ∈ free → width_of r items < width) → width_of r items < width
-  go true f k ih = let z : ◌≡◌ {A = ℕ} 0 1 = cc in absurd (omega arith)
+  go true f k ih = cc
   go false f k ih = ⊎_elim (λ t. rw t (leb-false width (width_of q items) f)) (ih k r) (List·Memᴰ·cases-cons m)
 
 -- What the rows of a shelf are to the search.
@@ -95,8 +95,8 @@ module _ (asked : Asked) (f : Focus Shelf) where
   none_tried e = go (first_wide asked.width f.this.items f.this.free) (is_bad_fit asked f.this) e where
     go : (o : Option ℕ) (b : Bool) → elim o as (λ o. Held) [ none ↦ nothing | some row ↦ pick b (bad f row) (good f row) ] ≡ nothing → o ≡ none
     go none b k = refl
-    go (some row) true k = let z : ◌≡◌ {A = ℕ} 0 1 = cc in absurd (omega arith)
-    go (some row) false k = let z : ◌≡◌ {A = ℕ} 0 1 = cc in absurd (omega arith)
+    go (some row) true k = cc
+    go (some row) false k = cc
 
   look_deep : asked.depth ≤ f.this.depth → looked asked nothing f ≡ tried asked nothing f
   unfolding looked passed_by holds_any
@@ -151,8 +151,7 @@ none_walked asked before (s ∷ after) e =
           let on : holds_any (pick (is_exact asked h) h (walk asked h (s ∷ before) after)) ≡ true =
           pick_cases (λ q. holds_any q ≡ true) (is_exact asked h) h (walk asked h (s ∷ before) after) (λ _. e) (λ _. still_holds asked h (s ∷ before) after e) in
           let z : true ≡ false = sym on ∙ ap holds_any k in
-          let y : ◌≡◌ {A = ℕ} 0 1 = cc in
-          omega arith
+          cc
 
       go : (h : Held) → looked asked nothing (record { before = before; this = s; after = after }) ≡ h
           → pick (is_exact asked h) h (walk asked h (s ∷ before) after) ≡ nothing

@@ -1,6 +1,6 @@
 -- Answer 7 is given exactly where the splits of the place that the search holds need more rows than are left. Assumes nothing.
 use Rattle.std.specs.Prelude.{◌≡◌, ◌≢◌, ◌⊎◌, ◌∷◌}
-use Rattle.numbers.specs.Library.{ℕ, refl, inl, inr, Bool, true, false, some, [], arith}
+use Rattle.numbers.specs.Library.{ℕ, refl, inl, inr, Bool, true, false, some, []}
 use Rattle.numbers.specs.Prelude.{pick}
 use Rattle.numbers.specs.declared.request.Asked.{Asked}
 use Rattle.rows.specs.declared.live.Live.{Live}
@@ -22,7 +22,7 @@ module _ (room : Room) (a : Atlas) (formed : WellFormed room a) (q : Asked) wher
   NotSeven o = o ≢ refused 7
 
   granted_not : (g : Given Live) → NotSeven (gives g)
-  granted_not g e = let z : ◌≡◌ {A = ℕ} 0 1 = cc in omega arith
+  granted_not g e = cc
 
   placed_not : (f : Focus Shelf) (w : Focus Item) → NotSeven (pick (splits_shelf q f.this)
       (grant_item a q (record { before = f.before; this = upper_part q.depth f.this; after = f.after }) w (lower_part a.limits a.rows q.depth f.this ∷ f.after) (item_taken (shelf_taken a.rows)))
@@ -49,9 +49,7 @@ module _ (room : Room) (a : Atlas) (formed : WellFormed room a) (q : Asked) wher
   unfolding Seven grant grant_row grant_in_shelf
   refuses_7 = (only (search q a.shelves) refl (search_holding q a.shelves), λ few. found few few.chosen) where
     only : (h : Held) → search q a.shelves ≡ h → Holding q a.shelves h → Seven (elim h [ nothing ↦ refused 6 | good f row ↦ grant_row room a q f row | bad f row ↦ grant_row room a q f row ])
-    only nothing e fits = (λ s. absurd (omega (arith, six_seven s))) where
-      six_seven : ◌≡◌ {A = Outcome (Given Live)} (refused 6) (refused 7) → ◌≡◌ {A = ℕ} 6 7
-      six_seven t = cc
+    only nothing e fits = λ s. absurd cc
     only (good f row) e fits = row_seven f row fits (inl e)
     only (bad f row) e fits = row_seven f row fits (inr e)
 

@@ -10,11 +10,28 @@ use Rattle.chains.proofs.Prelude.{self, chain_frame, each_from, rows_alike, walk
 use Rattle.rules.specs.Prelude.{Atlas, flag, shelf, freed_shelf, freed_item_of, Stores, room_in, Sound, WellFormed, shelf_next, item_next, shelves_met, Down, one_free_of}
 use Rattle.rules.specs.Prelude.{ShelfRight, down, at_top_of, AllColumns, ItemRight, along, at_left_of, ItemsRight, Rule1, Rule2, Rule3, Passes, PassesForClear, atlas_in}
 use Rattle.rules.proofs.Frames.{each_holds}
-use Rattle.laws.specs.Same.{SameRead, SameVerdict}
+use Rattle.laws.specs.Same.{SameUsed, SameRead, SameVerdict}
 use Rattle.laws.proofs.Stored.Once.{few_shelves, few_items, shelves_below, items_right}
 use Rattle.laws.proofs.Stored.FromRules.{reads, formed}
 use Rattle.laws.proofs.Stored.ToRules.{passes_read}
 use Rattle.laws.proofs.Stored.Unique.{unique}
+
+-- The atlas that is met in tables that pass lies in used rows only: it lies wherever these stand.
+pub lies_alike : (h : Header) (S S' I I' : List ℕ) → SameUsed h h S S' I I' → Passes h S I → Stores h S' I' (atlas_in h S I)
+unfolding atlas_in
+lies_alike h S S' I I' used p =
+    let a : Atlas = atlas_in h S I in
+    let sound : Sound (room_in S I) a = (formed h S I p).sound in
+    let stored : Stores h S I a = reads h S I p in
+    record {
+      header = stored.header;
+      shelf_chain = chain_frame shelf (get shelves S) (get shelves S') no_row a.shelves (λ r m. sym (used.shelf_rows r (sound.shelf_rows.serving_used r m))) stored.shelf_chain;
+      shelf_items = each_holds I I' a.shelves sound.free_listed (λ r m. sym (used.item_rows r (sound.item_rows.serving_used r m))) stored.shelf_items;
+      freed_shelves_lem = chain_frame freed_shelf (get shelves S) (get shelves S') no_row a.rows.shelves.freed
+          (λ r m. sym (used.shelf_rows r ((sound.shelf_rows.freed_exactly r).0 (rw self at m)).0)) stored.freed_shelves_lem;
+      freed_items_lem = chain_frame freed_item_of (get items I) (get items I') no_row a.rows.items.freed
+          (λ r m. sym (used.item_rows r ((sound.item_rows.freed_exactly r).0 m).0)) stored.freed_items_lem;
+    }
 
 module _ (h : Header) (S S' I I' : List ℕ) (same : SameRead h S S' I I') where
   abbrev same_shelf : (r : ℕ) → r < h.used_shelves → get shelves S' r ≡ get shelves S r
@@ -97,33 +114,18 @@ module _ (h : Header) (S S' I I' : List ℕ) (same : SameRead h S S' I I') where
     abbrev a : Atlas
     a = atlas_in h S I
 
-    sound : Sound (room_in S I) a
-    sound = (formed h S I p).sound
-
-    stored : Stores h S I a
-    stored = reads h S I p
-
-    lies_alike : Stores h S' I' a
-    unfolding atlas_in
-    lies_alike = record {
-      header = stored.header;
-      shelf_chain = chain_frame shelf (get shelves S) (get shelves S') no_row a.shelves (λ r m. same_shelf r (sound.shelf_rows.serving_used r m)) stored.shelf_chain;
-      shelf_items = each_holds I I' a.shelves sound.free_listed (λ r m. same_item r (sound.item_rows.serving_used r m)) stored.shelf_items;
-      freed_shelves_lem = chain_frame freed_shelf (get shelves S) (get shelves S') no_row a.rows.shelves.freed
-          (λ r m. same_shelf r ((sound.shelf_rows.freed_exactly r).0 (rw self at m)).0) stored.freed_shelves_lem;
-      freed_items_lem = chain_frame freed_item_of (get items I) (get items I') no_row a.rows.items.freed
-          (λ r m. same_item r ((sound.item_rows.freed_exactly r).0 m).0) stored.freed_items_lem;
-    }
+    lies : Stores h S' I' a
+    lies = lies_alike h S S' I I' same.used p
 
     keeps_alike : WellFormed (room_in S' I') a
     keeps_alike = rw same_room (formed h S I p)
 
     -- the same atlas is met
     pub same_atlas : atlas_in h S I ≡ atlas_in h S' I'
-    same_atlas = unique h S' I' a lies_alike keeps_alike
+    same_atlas = unique h S' I' a lies keeps_alike
 
     passes_alike : Passes h S' I'
-    passes_alike = passes_read h S' I' (rw same_atlas at lies_alike) (rw same_atlas at keeps_alike)
+    passes_alike = passes_read h S' I' (rw same_atlas at lies) (rw same_atlas at keeps_alike)
 
 -- ---- both ways
 

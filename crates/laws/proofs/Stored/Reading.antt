@@ -13,6 +13,8 @@ use Rattle.laws.proofs.Stored.Determined as determined-rows
 use Rattle.laws.proofs.Stored.NeverRead as never_read
 -- tables with the same used rows, alike elsewhere, are the same
 pub use Rattle.laws.proofs.Stored.Determined.{same_shelves, same_items}
+-- the atlas that is met in tables that pass lies in any tables with the same used rows
+pub use Rattle.laws.proofs.Stored.NeverRead.{lies_alike}
 
 module _ (h : Header) (S I : List ℕ) where
   -- the atlas that is met in tables that pass lies there, and keeps its rules
