@@ -6,10 +6,13 @@ ghost use Rattle.rules.specs.Prelude.{Rule1, Passes, PassesForClear};
 ghost use Rattle.audit.specs.Verdicts.{Exact};
 
 use rows::header::Header;
-use rows::{item, shelf};
+use rows::item::ItemRow;
+use rows::row::Row;
+use rows::shelf::ShelfRow;
+use std::fmt;
 
 // The first rule that fails; of rules 5 to 7, that one of them does. Rule 4 follows from 2 and 3.
-#[derive(Clone, Copy)]
+#[derive(Clone, Copy, PartialEq, Eq, Debug)]
 pub enum Verdict {
     Passes,
     Rule1,
@@ -18,14 +21,26 @@ pub enum Verdict {
     Rules5To7,
 }
 
+impl fmt::Display for Verdict {
+    fn fmt<W: fmt::Write>(&self, f: &mut fmt::Formatter<W>) -> fmt::Result {
+        match self {
+            Verdict::Passes => write!(f, "passes"),
+            Verdict::Rule1 => write!(f, "rule 1"),
+            Verdict::Rule2 => write!(f, "rule 2"),
+            Verdict::Rule3 => write!(f, "rule 3"),
+            Verdict::Rules5To7 => write!(f, "rules 5 to 7"),
+        }
+    }
+}
+
 // Rule 1.
 pub fn header_right(h: Header, shelves: &[u16], items: &[u16]) -> bool
     ensures { Decides result (Rule1 h shelves.now items.now) }
 {
-    if !shelf::has_shelves(shelves, h.used_shelves) {
+    if !ShelfRow::has(shelves, h.used_shelves) {
         return false;
     }
-    if !item::has_items(items, h.used_items) {
+    if !ItemRow::has(items, h.used_items) {
         return false;
     }
     limit_checks::within_limits(h.limits)
@@ -39,10 +54,10 @@ pub fn passes_for_clear(h: Header, shelves: &[u16], items: &[u16]) -> bool
         return false;
     }
     let columns = limit_checks::columns(h.limits);
-    if !shelf::has_shelves(shelves, columns) {
+    if !ShelfRow::has(shelves, columns) {
         return false;
     }
-    item::has_items(items, columns)
+    ItemRow::has(items, columns)
 }
 
 // The rules after the first, one after another.
@@ -53,10 +68,9 @@ fn by_rules(h: Header, shelves: &[u16], items: &[u16]) -> Verdict
     if !audit_shelves::shelves_right(h, shelves, items) {
         return Verdict::Rule2;
     }
-    let t = audit_items::all_items(h, shelves, items);
-    if !t.right {
+    let Some(t) = audit_items::all_items(h, shelves, items) else {
         return Verdict::Rule3;
-    }
+    };
     if !audit_lists::lists_agree(h, shelves, items, t) {
         return Verdict::Rules5To7;
     }
@@ -80,11 +94,5 @@ pub fn audit(h: Header, shelves: &[u16], items: &[u16]) -> Verdict
 pub fn passes(h: Header, shelves: &[u16], items: &[u16]) -> bool
     ensures { Decides result (Passes h shelves.now items.now) }
 {
-    match audit(h, shelves, items) {
-        Verdict::Passes => true,
-        Verdict::Rule1 => false,
-        Verdict::Rule2 => false,
-        Verdict::Rule3 => false,
-        Verdict::Rules5To7 => false,
-    }
+    audit(h, shelves, items) == Verdict::Passes
 }

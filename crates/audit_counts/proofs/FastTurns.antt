@@ -1,7 +1,7 @@
 -- One turn of the fast walk along a shelf's items. It is the exact walk's turn under a header with alignments of 1 (`loose`), with the widths or-ed
 -- beside it. Assumes nothing.
-use Rattle.std.specs.Prelude.{◌≡◌, ◌≢◌, ◌+◌, ◌-◌, ◌%◌, ◌^◌, ◌≤◌, ◌<◌}
-use Rattle.numbers.specs.Library.{refl, sym, true, List, ℕ, arith, eq-eqb}
+use Rattle.std.specs.Prelude.{◌≡◌, ◌≢◌, ◌+◌, ◌-◌, ◌%◌, ◌^◌, ◌≤◌, ◌<◌, Some}
+use Rattle.numbers.specs.Library.{refl, sym, List, ℕ, arith}
 use lib.Bits.{bit_or}
 use Rattle.numbers.specs.Prelude.{no_row}
 use Rattle.rows.specs.Prelude.{get, items}
@@ -119,12 +119,12 @@ module _ {h : Header} {I : List ℕ} {on : ℕ} {s : ShelfRow} {met all edge fre
   pub on_more : met ≤ m.count
   on_more = omega (arith, so_far.count_is)
 
-  pub on_tallied : ShelfTallied (loose h) I on s (record { right = true; count = m.count - met; free = free; live = h.limits.shelf_width - gap; stray = 0 })
+  pub on_tallied : ShelfTallied (loose h) I on s (Some (record { count = m.count - met; free = free; live = h.limits.shelf_width - gap; stray = 0 }))
   unfolding loose
   on_tallied =
       let live : m.x - s.x - gap ≡ h.limits.shelf_width - gap = omega arith in
       let count : so_far.here ≡ m.count - met = omega (arith, so_far.count_is) in
-      rw (eq-eqb _ _ wide, live, count) at (shelf_ended so_far.turn stop few_here)
+      rw (live, count) at (shelf_ended so_far.turn stop few_here wide)
 
   pub on_even : Even h I s all m.widths
   unfolding Even

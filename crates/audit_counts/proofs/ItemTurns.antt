@@ -1,14 +1,14 @@
 -- One turn along the items of a shelf, with what is counted there. The loop does not look whether steps are left: it counts them, and a count of
 -- more than the used rows is refused at its end (`Going`). Assumes nothing.
-use Rattle.std.specs.Prelude.{◌≡◌, ◌≢◌, ◌&&◌, ◌+◌, ◌-◌, ◌*◌, ◌≤◌, ◌<◌}
-use Rattle.numbers.specs.Library.{refl, sym, ◌∙◌, Bool, true, false, and-false, false≢true, List, ℕ, dec_lt, arith}
-use Rattle.numbers.specs.Library.{eqb-true, eq-eqb, ne_eqb, eqb, length}
-use Rattle.numbers.specs.Prelude.{no_row, never, refuted}
+use Rattle.std.specs.Prelude.{◌≡◌, ◌≢◌, ◌&&◌, ◌+◌, ◌-◌, ◌*◌, ◌≤◌, ◌<◌, Some}
+use Rattle.numbers.specs.Library.{refl, sym, ◌∙◌, Bool, true, false, and-false, List, ℕ, dec_lt, arith}
+use Rattle.numbers.specs.Library.{eq-eqb, ne_eqb, eqb, length}
+use Rattle.numbers.specs.Prelude.{no_row}
 use Rattle.rows.specs.Prelude.{get, items}
 use Rattle.rows.specs.declared.{header.Header.Header, item.ItemRow.ItemRow, shelf.ShelfRow.ShelfRow}
 use Rattle.rules.specs.Prelude.{item_next, Along, ItemRight, along, at_left_of, sum_over}
 use Rattle.audit_counts.specs.Counts.{apart, free_in_of, live_in, stray_in, free_of, live_of, stray_of, rows_of, RightOf, Small, ShelfTallied}
-use Rattle.chains.proofs.Prelude.{Deciding, begins, onward, wrong, no_fuel, outside, ended, unended, Lasting, lasts, lasted, last_ended}
+use Rattle.chains.proofs.Prelude.{Deciding, begins, onward, no_fuel, unended, Lasting, lasts, lasted, last_ended}
 use Rattle.audit_counts.proofs.Sums.{Summing, sums, summed, sum-ended}
 
 pub record AtItem (h : Header) (I : List ℕ) (on : ℕ) (s : ShelfRow) (cur fuel : ℕ) (d : Along) (free live stray : ℕ) : Type 0 where
@@ -27,9 +27,6 @@ items_begin h I on s b = record { walk = begins b; count = lasts; frees = sums; 
 
 module _ {h : Header} {I : List ℕ} {on : ℕ} {s : ShelfRow} {cur fuel : ℕ} {d : Along} {free live stray : ℕ} (w : AtItem h I on s cur fuel d free live stray)
     (ne : cur ≢ no_row) (i : ItemRow) (e : i ≡ get items I cur) where
-  wrong_at : (ItemRight h on d i → ⊥) → RightOf h I on s → ⊥
-  wrong_at n a = wrong w.walk ne (λ o. n (rw e o)) a
-
   past_at : 1 ≤ fuel → cur < h.used_items → ItemRight h on d i
       → AtItem h I on s i.next.0 (fuel - 1) (along d cur i) (free + free_in_of i) (live + live_in i) (stray + stray_in i)
   past_at f u o =
@@ -60,13 +57,7 @@ going_begins h I on s b =
 
 module _ {h : Header} {I : List ℕ} {on : ℕ} {s : ShelfRow} {cur count : ℕ} {d : Along} {free live stray : ℕ}
     (w : Going h I on s cur count d free live stray) (ne : cur ≢ no_row) where
-  pub going_outside : h.used_items ≤ cur → RightOf h I on s → ⊥
-  going_outside o a = either ⊥ count h.used_items (λ m. outside (w.within m).walk ne o a) (λ m. w.beyond m a)
-
   module _ (i : ItemRow) (e : i ≡ get items I cur) where
-    pub going_wrong : (ItemRight h on d i → ⊥) → RightOf h I on s → ⊥
-    going_wrong n a = either ⊥ count h.used_items (λ m. wrong_at (w.within m) ne i e n a) (λ m. w.beyond m a)
-
     pub going_past : cur < h.used_items → ItemRight h on d i
         → Going h I on s i.next.0 (count + 1) (along d cur i) (free + free_in_of i) (live + live_in i) (stray + stray_in i)
     going_past u o = record {
@@ -82,17 +73,6 @@ module _ {h : Header} {I : List ℕ} {on : ℕ} {s : ShelfRow} {cur count : ℕ}
 abbrev pub Placed : Header → ℕ → ℕ → ℕ → ItemRow → Type 0
 Placed h on prev x i = ItemRight h on (record { prev = prev; x = x; after_free = false }) i
 
-placed : {h : Header} {on prev x : ℕ} {after : Bool} {i : ItemRow} → ItemRight h on (record { prev = prev; x = x; after_free = after }) i → Placed h on prev x i
-placed o = record {
-  back = o.back;
-  named = o.named;
-  at_x = o.at_x;
-  some_width = o.some_width;
-  aligned = o.aligned;
-  flag_right = o.flag_right;
-  apart = refl;
-}
-
 flagged : {h : Header} {on prev x : ℕ} (after : Bool) {i : ItemRow} → Placed h on prev x i → after && eqb i.allocated 0 ≡ false
     → ItemRight h on (record { prev = prev; x = x; after_free = after }) i
 flagged after o q = record {
@@ -104,9 +84,6 @@ flagged after o q = record {
   flag_right = o.flag_right;
   apart = q;
 }
-
-both : {a b : Bool} → a ≡ true → b ≡ true → a && b ≡ true
-both e f = rw (e, f)
 
 -- how far the two links are from none
 links_far : (a b : ℕ) → a ≤ 65535 → b ≤ 65535 → apart a no_row + apart b no_row + (a + b) ≡ 131070
@@ -152,49 +129,26 @@ shelf_begins h I on s b m = record {
   edge_most = omega arith;
 }
 
-pub shelf_wrong : {h : Header} {I : List ℕ} {on : ℕ} {s : ShelfRow} → (RightOf h I on s → ⊥)
-    → ShelfTallied h I on s (record { right = false; count = 0; free = 0; live = 0; stray = 0 })
-shelf_wrong n = record {
-  exact = refuted n;
-  counts = never;
-  count_most = omega arith;
-  free_most = omega arith;
-  live_most = omega arith;
-  stray_most = omega arith;
-}
-
 module _ {h : Header} {I : List ℕ} {on : ℕ} {s : ShelfRow} {cur prev x edge free count gap stray : ℕ}
     (so_far : InShelf h I on s cur prev x edge free count gap stray) where
-  pub shelf_outside : cur ≢ no_row → h.used_items ≤ cur → RightOf h I on s → ⊥
-  shelf_outside ne outside-rows = going_outside so_far.going ne outside-rows
-
-  pub shelf_beyond : h.used_items < count → RightOf h I on s → ⊥
-  shelf_beyond b = so_far.going.beyond b
-
-  pub shelf_ended : cur ≡ no_row → count ≤ h.used_items
-      → ShelfTallied h I on s (record { right = eqb x (s.x + h.limits.shelf_width); count = count; free = free; live = x - s.x - gap; stray = stray })
-  shelf_ended stop few =
+  pub shelf_ended : cur ≡ no_row → count ≤ h.used_items → x ≡ s.x + h.limits.shelf_width
+      → ShelfTallied h I on s (Some (record { count = count; free = free; live = x - s.x - gap; stray = stray }))
+  shelf_ended stop few wide =
       let at = so_far.going.within few in
-      let n = last_ended at.count stop in
-      record {
-        exact = record { sound = λ e. unended at.walk so_far.used_most stop (eqb-true _ _ e); complete = λ a. eq-eqb _ _ (ended at.walk so_far.used_most stop a) };
-        counts = λ e. record { count = omega (arith, n, few); free = sum-ended at.frees stop; live = sum-ended at.lives stop; stray = sum-ended at.strays stop };
-        count_most = omega (arith, few, so_far.used_most);
-        free_most = omega (arith, few, so_far.used_most, so_far.free_most);
-        live_most = omega (arith, so_far.x_most);
-        stray_most = omega (arith, few, so_far.used_most, so_far.stray_most);
-      }
+      let n = last_ended at.count stop in (
+        unended at.walk so_far.used_most stop wide,
+        record {
+          counts = record { count = omega (arith, n, few); free = sum-ended at.frees stop; live = sum-ended at.lives stop; stray = sum-ended at.strays stop };
+          count_most = omega (arith, few, so_far.used_most);
+          free_most = omega (arith, few, so_far.used_most, so_far.free_most);
+          live_most = omega (arith, so_far.x_most);
+          stray_most = omega (arith, few, so_far.used_most, so_far.stray_most);
+        },
+      )
 
   module _ (in_use : cur < h.used_items) (i : ItemRow) (row_is : i ≡ get items I cur) where
     there : cur ≢ no_row
     there q = omega (arith, in_use, q, so_far.used_most)
-
-    pub item_misplaced : (Placed h on prev x i → ⊥) → RightOf h I on s → ⊥
-    item_misplaced n = going_wrong so_far.going there i row_is (λ right. n (placed right))
-
-    module _ (right : Placed h on prev x i) where
-      pub two_free : i.allocated ≢ 1 → edge ≡ x + 1 → RightOf h I on s → ⊥
-      two_free n q = going_wrong so_far.going there i row_is (λ r. false≢true (sym r.apart ∙ both (eq-eqb edge (x + 1) q) (eq-eqb i.allocated 0 (omega (arith, n, right.flag_right)))))
 
     module _ (right : Placed h on prev x i) (small : Small i) where
       end_most : x + i.width ≤ 131070

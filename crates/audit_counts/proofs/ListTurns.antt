@@ -1,13 +1,14 @@
 -- Loops that count the rows of a chain and ask something of each: a free list, the freed shelf rows, the freed item rows. Assumes nothing.
-use Rattle.std.specs.Prelude.{◌≡◌, ◌≢◌, ◌-◌, ◌≤◌, ◌<◌}
-use Rattle.numbers.specs.Library.{refl, Bool, true, false, not, List, ℕ, arith, length}
-use Rattle.numbers.specs.Prelude.{Decides, never, refuted, denied, allowed, no_row}
+use Rattle.std.specs.Prelude.{◌≡◌, ◌≢◌, ◌+◌, ◌-◌, ◌≤◌, ◌<◌, Some}
+use Rattle.numbers.specs.Library.{List, ℕ, arith, length}
+use native.Mathlib.Nat.{sub-zero}
+use Rattle.numbers.specs.Prelude.{no_row}
 use Rattle.pool.specs.Pool.{FreedShelf, FreedItem}
 use Rattle.rows.specs.Prelude.{get, items, shelves}
 use Rattle.rows.specs.declared.{header.Header.Header, item.ItemRow.ItemRow, shelf.ShelfRow.ShelfRow}
 use Rattle.chains.specs.Prelude.{rows_from, Walk}
 use Rattle.rules.specs.Prelude.{free_next, freed_shelves_met, freed_items_met}
-use Rattle.audit_counts.specs.Counts.{Counts, FreeItem, FreeList, FreeListCounted, FreedShelves, FreedItems}
+use Rattle.audit_counts.specs.Counts.{FreeItem, FreeList, FreeListCounted, FreedShelves, FreedItems}
 use Rattle.chains.proofs.Prelude.{Deciding, begins, onward, wrong, no_fuel, outside, unended, Lasting, lasts, lasted, last_ended}
 
 -- ---- any of them
@@ -26,11 +27,8 @@ module _ {σ R : Type 0} {row : ℕ → R} {ok : σ → R → Type 0} {link : R 
   counting_begins b = record { walk = begins b; count = lasts; rows_most = b; fuel_most = omega arith }
 
   module _ {A : Type 0} {total cur fuel : ℕ} {s : σ} (w : Counting row ok link next n A total cur fuel s) where
-    all_right : cur ≡ no_row → Decides true A
-    all_right e = record { sound = λ q. unended w.walk w.rows_most e tt; complete = λ a. refl }
-
-    all_counted : cur ≡ no_row → n - fuel ≡ total
-    all_counted e = omega (arith, last_ended w.count e)
+    pub all_right : cur ≡ no_row → A
+    all_right e = unended w.walk w.rows_most e tt
 
     pub there : cur < n → cur ≢ no_row
     there u e = omega (arith, w.rows_most)
@@ -46,18 +44,22 @@ module _ {σ R : Type 0} {row : ℕ → R} {ok : σ → R → Type 0} {link : R 
         pub wrong_row : (ok s i → ⊥) → A → ⊥
         wrong_row no' a = wrong w.walk ne (λ o. no' (rw e o)) a
 
-        pub past_row : 1 ≤ fuel → cur < n → ok s i → Counting row ok link next n A total (link i) (fuel - 1) (next s cur)
-        past_row f u o =
-            rw e (record { walk = onward w.walk ne f u (rw e at o); count = lasted w.count ne f; rows_most = w.rows_most; fuel_most = omega (arith, w.fuel_most) })
+        pub past_row : {left : ℕ} → left + 1 ≡ fuel → cur < n → ok s i → Counting row ok link next n A total (link i) left (next s cur)
+        past_row {left} f u o =
+            let one : fuel - 1 ≡ left = omega arith in
+            let some : 1 ≤ fuel = omega arith in
+            rw (e, ← one) (record {
+              walk = onward w.walk ne some u (rw e at o);
+              count = lasted w.count ne some;
+              rows_most = w.rows_most;
+              fuel_most = omega (arith, w.fuel_most);
+            })
 
 -- ---- what is told at the end
 
-pub refused : {A : Type 0} {rows : List ℕ} → (A → ⊥) → Counts A rows (record { right = false; count = 0 })
-refused n = record { exact = refuted n; count = never }
-
-pub told : {σ R : Type 0} {row : ℕ → R} {ok : σ → R → Type 0} {link : R → ℕ} {next : σ → ℕ → σ} {n : ℕ} {A : Type 0} {rows : List ℕ} {cur fuel : ℕ} {s : σ}
-    → Counting row ok link next n A (length rows) cur fuel s → cur ≡ no_row → Counts A rows (record { right = true; count = n - fuel })
-told w stop = record { exact = all_right w stop; count = λ e. all_counted w stop }
+pub told : {σ R : Type 0} {row : ℕ → R} {ok : σ → R → Type 0} {link : R → ℕ} {next : σ → ℕ → σ} {n : ℕ} {A : Type 0} {total cur fuel count : ℕ} {s : σ}
+    → Counting row ok link next n A total cur fuel s → cur ≡ no_row → fuel + count ≡ n → A × (count ≡ total)
+told w stop e = (all_right w stop, omega (arith, last_ended w.count stop))
 
 -- ---- a free list
 
@@ -66,48 +68,32 @@ AtFree h I on first cur fuel prev =
     Counting (get items I) (FreeItem on) (λ (i : ItemRow). i.next_unallocated.0) (λ (prev : ℕ) r. r) h.used_items
     (FreeList h I on first) (length (rows_from (free_next I) h.used_items first)) cur fuel prev
 
-pub free_begins : (h : Header) (I : List ℕ) (on first : ℕ) → h.used_items ≤ no_row → AtFree h I on first first h.used_items no_row
+pub free_begins : (h : Header) (I : List ℕ) (on first : ℕ) → h.used_items ≤ no_row → AtFree h I on first first (h.used_items - 0) no_row
 unfolding FreeList
-free_begins h I on first b = counting_begins b
+free_begins h I on first b = rw (sub-zero h.used_items) (counting_begins b)
 
-pub free_wrong : {h : Header} {I : List ℕ} {on first : ℕ} → (FreeList h I on first → ⊥) → FreeListCounted h I on first (record { right = false; count = 0 })
-free_wrong n = record { counted = refused n; count_most = omega arith }
+pub free_told : (h : Header) (I : List ℕ) (on first : ℕ) {cur fuel prev count : ℕ} → AtFree h I on first cur fuel prev → cur ≡ no_row
+    → fuel + count ≡ h.used_items → FreeListCounted h I on first (Some count)
+free_told h I on first w stop e = let all = told w stop e in (all.0, (all.1, omega (arith, w.rows_most)))
 
--- ---- the freed rows of either table
+-- ---- the freed shelf rows
 
--- The loop in row `cur`, with so many steps left: `A` holds exactly when the rest is right, and `rows` are all that are met.
-pub record AtFreed {R : Type 0} (row : ℕ → R) (ok : R → Type 0) (link : R → ℕ) (n : ℕ) (A : Type 0) (rows : List ℕ) (cur fuel : ℕ) : Type 0 where
-  pub counting : Counting row (λ (u : Unit {0}). ok) link (λ (u : Unit {0}) r. u) n A (length rows) cur fuel tt
-
-module _ {R : Type 0} {row : ℕ → R} {ok : R → Type 0} {link : R → ℕ} {n : ℕ} {A : Type 0} {rows : List ℕ} {cur fuel : ℕ} (w : AtFreed row ok link n A rows cur fuel) where
-  pub freed_told : cur ≡ no_row → Counts A rows (record { right = true; count = n - fuel })
-  freed_told stop = told w.counting stop
-
-  module _ (ne : cur ≢ no_row) where
-    pub freed_too_many : fuel ≡ 0 → Counts A rows (record { right = false; count = 0 })
-    freed_too_many z = refused (no_steps w.counting ne z)
-
-    pub freed_unused : n ≤ cur → Counts A rows (record { right = false; count = 0 })
-    freed_unused o = refused (no_row_lem w.counting ne o)
-
-    module _ (i : R) (e : i ≡ row cur) {test : Bool} (d : Decides test (ok i)) where
-      pub freed_wrong : not test ≡ true → Counts A rows (record { right = false; count = 0 })
-      freed_wrong t = refused (wrong_row w.counting ne i e (denied d t))
-
-      pub freed_past : not test ≡ false → 1 ≤ fuel → cur < n → AtFreed row ok link n A rows (link i) (fuel - 1)
-      freed_past t f u = record { counting = past_row w.counting ne i e f u (allowed d t) }
-
--- the two tables
 abbrev pub AtFreedShelf : Header → List ℕ → ℕ → ℕ → Type 0
-AtFreedShelf h S = AtFreed (get shelves S) FreedShelf (λ (s : ShelfRow). s.next.0) h.used_shelves (FreedShelves h S) (freed_shelves_met h S)
+AtFreedShelf h S cur fuel =
+    Counting (get shelves S) (λ (u : Unit {0}). FreedShelf) (λ (s : ShelfRow). s.next.0) (λ (u : Unit {0}) r. u) h.used_shelves
+    (FreedShelves h S) (length (freed_shelves_met h S)) cur fuel tt
 
-pub freed_shelves_begin : (h : Header) (S : List ℕ) → h.used_shelves ≤ no_row → AtFreedShelf h S h.free_shelves.0 h.used_shelves
+pub freed_shelves_begin : (h : Header) (S : List ℕ) → h.used_shelves ≤ no_row → AtFreedShelf h S h.free_shelves.0 (h.used_shelves - 0)
 unfolding FreedShelves freed_shelves_met
-freed_shelves_begin h S b = record { counting = counting_begins b }
+freed_shelves_begin h S b = rw (sub-zero h.used_shelves) (counting_begins b)
+
+-- ---- the freed item rows
 
 abbrev pub AtFreedItem : Header → List ℕ → ℕ → ℕ → Type 0
-AtFreedItem h I = AtFreed (get items I) FreedItem (λ (i : ItemRow). i.next.0) h.used_items (FreedItems h I) (freed_items_met h I)
+AtFreedItem h I cur fuel =
+    Counting (get items I) (λ (u : Unit {0}). FreedItem) (λ (i : ItemRow). i.next.0) (λ (u : Unit {0}) r. u) h.used_items
+    (FreedItems h I) (length (freed_items_met h I)) cur fuel tt
 
-pub freed_items_begin : (h : Header) (I : List ℕ) → h.used_items ≤ no_row → AtFreedItem h I h.free_items.0 h.used_items
+pub freed_items_begin : (h : Header) (I : List ℕ) → h.used_items ≤ no_row → AtFreedItem h I h.free_items.0 (h.used_items - 0)
 unfolding FreedItems freed_items_met
-freed_items_begin h I b = record { counting = counting_begins b }
+freed_items_begin h I b = rw (sub-zero h.used_items) (counting_begins b)

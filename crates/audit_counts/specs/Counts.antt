@@ -1,15 +1,21 @@
 -- What the audit's walks decide and count: the items of a shelf, all the items, the free lists, the freed chains. From these counts follow rules
 -- 5 to 7 (proofs/Agree). `S` is the shelf table and `I` the item table throughout. Assumes nothing.
-use Rattle.std.specs.Prelude.{◌+◌, ◌-◌, ◌≤◌, ◌≡◌}
-use Rattle.numbers.specs.Library.{ℕ, true, List, eqb, length}
-use Rattle.numbers.specs.Prelude.{pick, no_row, Decides}
+use Rattle.std.specs.Prelude.{◌+◌, ◌-◌, ◌≤◌, ◌≡◌, Option, MatchOption}
+use Rattle.numbers.specs.Library.{ℕ, List, eqb, length}
+use Rattle.numbers.specs.Prelude.{pick, no_row}
 use Rattle.rows.specs.Prelude.{get, items, shelves}
 use Rattle.pool.specs.Pool.{FreedShelf, FreedItem}
 use Rattle.rows.specs.declared.{header.Header.Header, shelf.ShelfRow.ShelfRow, item.ItemRow.ItemRow}
 use Rattle.chains.specs.Prelude.{Each, gather, rows_from, Walk}
 use Rattle.rules.specs.Prelude.{shelf_next, item_next, free_next, shelves_met, free_met, all_items_met, freed_shelves_met, freed_items_met, ItemRight, along, at_left_of}
 use Rattle.rules.specs.Prelude.{Rule3, sum_over, area_met}
-use Rattle.audit_counts.specs.declared.{Tally.Tally, Totals.Totals, Counted.Counted}
+use Rattle.audit_counts.specs.declared.{Tally.Tally, Totals.Totals}
+
+-- ---- what is told
+
+-- `told` has a value exactly when A holds, and then P holds of the value
+abbrev pub GivenIf : {T : Type 0} → Type 0 → (T → Type 0) → Option T → Type 0
+GivenIf A P told = MatchOption told (¬ A) (λ v. A × P v)
 
 -- ---- the items of one shelf
 
@@ -59,13 +65,16 @@ pub record ShelfCounts (h : Header) (I : List ℕ) (s : ShelfRow) (t : Tally) : 
   pub live : t.live ≡ sum_over (live_of I) (rows_of h I s)
   pub stray : t.stray ≡ sum_over (stray_of I) (rows_of h I s)
 
-pub record ShelfTallied (h : Header) (I : List ℕ) (on : ℕ) (s : ShelfRow) (t : Tally) : Type 0 where
-  pub exact : Decides t.right (RightOf h I on s)
-  pub counts : t.right ≡ true → ShelfCounts h I s t
+-- what is counted of a shelf whose items are right, and how large it can be
+pub record Tallied (h : Header) (I : List ℕ) (s : ShelfRow) (t : Tally) : Type 0 where
+  pub counts : ShelfCounts h I s t
   pub count_most : t.count ≤ 65535
   pub free_most : t.free ≤ 65535
   pub live_most : t.live ≤ 131070
   pub stray_most : t.stray ≤ 8589672450
+
+abbrev pub ShelfTallied : Header → List ℕ → (on : ℕ) → ShelfRow → Option Tally → Type 0
+ShelfTallied h I on s = GivenIf (RightOf h I on s) (Tallied h I s)
 
 -- ---- all the items
 
@@ -76,16 +85,14 @@ pub record AllCounts (h : Header) (S I : List ℕ) (t : Totals) : Type 0 where
   pub stray : t.stray ≡ sum_over (stray_of I) (all_items_met h S I)
   pub area : t.area ≡ sum_over (area_met h S I) (shelves_met h S)
 
-pub record AllTallied (h : Header) (S I : List ℕ) (t : Totals) : Type 0 where
-  pub exact : Decides t.right (Rule3 h S I)
-  pub counts : t.right ≡ true → AllCounts h S I t
+abbrev pub AllTallied : Header → (S I : List ℕ) → Option Totals → Type 0
+AllTallied h S I = GivenIf (Rule3 h S I) (AllCounts h S I)
 
 -- ---- the rows of a chain
 
 -- `c` says whether A holds, and then how many these rows are
-pub record Counts (A : Type 0) (rows : List ℕ) (c : Counted) : Type 0 where
-  pub exact : Decides c.right A
-  pub count : c.right ≡ true → c.count ≡ length rows
+abbrev pub Counts : Type 0 → (rows : List ℕ) → Option ℕ → Type 0
+Counts A rows = GivenIf A (λ c. c ≡ length rows)
 
 -- ---- the free lists
 
@@ -119,9 +126,8 @@ unfoldable pub all_free_met : Header → List ℕ → List ℕ → List ℕ
 unfolding shelves_met free_met
 all_free_met h S I = gather (free_met h S I) (shelves_met h S)
 
-pub record FreeListCounted (h : Header) (I : List ℕ) (on first : ℕ) (c : Counted) : Type 0 where
-  pub counted : Counts (FreeList h I on first) (rows_from (free_next I) h.used_items first) c
-  pub count_most : c.count ≤ 65535
+abbrev pub FreeListCounted : Header → List ℕ → (on first : ℕ) → Option ℕ → Type 0
+FreeListCounted h I on first = GivenIf (FreeList h I on first) (λ c. (c ≡ length (rows_from (free_next I) h.used_items first)) × (c ≤ 65535))
 
 -- ---- the freed rows
 

@@ -2,11 +2,10 @@
 // why rules 5 to 7 follow from them.
 #![tactic(auto)]
 
-// Whether a shelf's items are right, and then how many they are, how many of them are free, how wide the live ones are together, and how far the
-// free links of the live ones are from none.
+// The items of a shelf that are right: how many they are, how many of them are free, how wide the live ones are together, and how far the free links of
+// the live ones are from none.
 #[derive(Clone, Copy)]
 pub struct Tally {
-    pub right: bool,
     pub count: u32,
     pub free: u32,
     pub live: u32,
@@ -16,17 +15,9 @@ pub struct Tally {
 // The same of all the shelves, with the number of shelves, and the live area in place of the width.
 #[derive(Clone, Copy)]
 pub struct Totals {
-    pub right: bool,
     pub shelves: u32,
     pub items: u32,
     pub free: u32,
     pub stray: u64,
     pub area: u64,
-}
-
-// Whether the rows of a chain are right, and then how many they are.
-#[derive(Clone, Copy)]
-pub struct Counted {
-    pub right: bool,
-    pub count: u32,
 }

@@ -21,8 +21,8 @@ pub record ListFound (h : Header) (I : List ℕ) (on : ℕ) (s : ShelfRow) (free
 
 pub record ShelfFound (h : Header) (I : List ℕ) (on : ℕ) (s : ShelfRow) (under_empty : Bool) (met all : ℕ) (w : Walked) : Type 0 where
   pub walks : Walks h I on s met all w
-  pub list : w.right ≡ true → ListFound h I on s w.free
-  pub flagged : w.right ≡ true → FlagRight s (flag (one_free_of h I s.first_item.0)) under_empty
+  pub list : ListFound h I on s w.free
+  pub flagged : FlagRight s (flag (one_free_of h I s.first_item.0)) under_empty
 
 -- all that is asked of the shelves, but for the alignment of widths, and what was counted
 pub record ShelvesFound (h : Header) (S I : List ℕ) (f : Found) : Type 0 where
@@ -30,13 +30,10 @@ pub record ShelvesFound (h : Header) (S I : List ℕ) (f : Found) : Type 0 where
   pub items_right : Rule3 (loose h) S I
   pub free : ℕ
   pub few : f.items ≤ h.used_items
-  pub counts : AllCounts (loose h) S I (record { right = true; shelves = f.shelves; items = f.items; free = free; stray = 0; area = f.area })
+  pub counts : AllCounts (loose h) S I (record { shelves = f.shelves; items = f.items; free = free; stray = 0; area = f.area })
   pub lists : Each (λ on. FreeListAt h I on (get shelves S on).first_unallocated.0) (shelves_met h S)
   pub all_free : length (all_free_met h S I) ≡ free
   pub even : (k : ℕ) → f.widths % 2 ^ k ≡ 0 → sum_over (λ on. sum_over (odd_of k I) (items_met h S I on)) (shelves_met h S) ≡ 0
-
-pub record FoundSo (h : Header) (S I : List ℕ) (f : Found) : Type 0 where
-  pub yes : f.right ≡ true → ShelvesFound h S I f
 
 -- the width of each used item row is a multiple of the step
 abbrev pub EachAligned : List ℕ → (used step : ℕ) → Type 0

@@ -2,80 +2,30 @@
 // audit would too; where it says no, that has to be asked.
 #![tactic(auto)]
 
-ghost use Rattle.std.specs.Prelude.{eqb, ◌≡◌, ◌+◌, ◌≤◌};
+ghost use Rattle.std.specs.Prelude.{◌≤◌, IfSome};
 ghost use Rattle.numbers.specs.Prelude.{Decides, along_step};
 ghost use Rattle.rows.specs.Prelude.{item_capacity};
-ghost use Rattle.audit_shelves.specs.Placed.{ShelfPlaced, FlagRight};
-ghost use Rattle.rules.specs.Prelude.{Rule1, Passes, flag};
-ghost use Rattle.audit_fast.specs.Found.{ShelfFound, FoundSo, EachAligned, WidthsFound, FreedFound, SaysYes};
+ghost use Rattle.rules.specs.Prelude.{Rule1, Passes};
+ghost use Rattle.audit_fast.specs.Found.{ShelfFound, ShelvesFound, EachAligned, WidthsFound, FreedFound, SaysYes};
 
 use fast_items::Walked;
 use numbers::index::{ItemIndex, NO_ROW, ShelfIndex};
 use rows::header::Header;
+use rows::item::ItemRow;
+use rows::row::Row;
 use rows::shelf::ShelfRow;
-use rows::{item, shelf};
 
-// Whether the shelf chain is right, and then how many shelves and items there are, the live area, and all widths, or-ed.
+// What was counted where all shelves are right: how many shelves and items there are, the live area, and all widths, or-ed.
 #[derive(Clone, Copy)]
 pub struct Found {
-    pub right: bool,
     pub shelves: u16,
     pub items: u32,
     pub area: u64,
     pub widths: u32,
 }
 
-const NOTHING: Walked = Walked {
-    right: false,
-    count: 0,
-    free: 0,
-    gap: 0,
-    widths: 0,
-};
-
-const WRONG: Found = Found {
-    right: false,
-    shelves: 0,
-    items: 0,
-    area: 0,
-    widths: 0,
-};
-
-// Whether a shelf stands where the walk has come to, from y to `end`. Depths have 32 bits here, so that they are added once (measured).
-fn placed(h: Header, prev: u16, column: u16, y: u32, end: u32, s: ShelfRow) -> bool
-    requires { end ≡ y + s.height }
-    ensures { Decides result (ShelfPlaced h prev column y s) }
-{
-    if s.prev.0 != prev {
-        return false;
-    }
-    if s.x as u32 != column as u32 * h.limits.shelf_width as u32 {
-        return false;
-    }
-    if s.y as u32 != y {
-        return false;
-    }
-    if s.height == 0 {
-        return false;
-    }
-    end <= h.limits.height as u32
-}
-
-// Whether a shelf with free items of this width together has its flag, and no empty shelf follows an empty one. No two free items adjoin, so that the shelf
-// is one free item exactly when they are as wide as it is.
-fn flag_right(h: Header, s: ShelfRow, gap: u32, under_empty: bool) -> bool
-    ensures { Decides result (FlagRight s (flag (eqb gap h.limits.shelf_width)) under_empty) }
-{
-    if gap != h.limits.shelf_width as u32 {
-        return s.is_empty == 0;
-    }
-    if under_empty {
-        return false;
-    }
-    s.is_empty == 1
-}
-
-// One shelf: its items, its free list, and its flag. `met` and `all` are what was counted and or-ed on the shelves before it.
+// One shelf: its items, its free list, and its flag. No two free items adjoin, so that a shelf is one free item exactly when they are as wide as it is.
+// `met` and `all` are what was counted and or-ed on the shelves before it.
 fn one_shelf(
     h: Header,
     items: &[u16],
@@ -84,27 +34,25 @@ fn one_shelf(
     under_empty: bool,
     met: u32,
     all: u32,
-) -> Walked
+) -> Option<Walked>
     requires { (h.used_items ≤ item_capacity items.now) × (1 ≤ h.limits.shelf_width) × (met ≤ 65535) }
-    ensures { ShelfFound h items.now on s under_empty met all result }
+    ensures { IfSome result (ShelfFound h items.now on s under_empty met all) }
 {
-    let w = fast_items::items_right(h, items, on, s, met, all);
-    if !w.right {
-        return w;
-    }
+    let w = fast_items::items_right(h, items, on, s, met, all)?;
     if !fast_lists::free_list(h, items, on, s.first_unallocated.0 as usize, w.free) {
-        return NOTHING;
+        return None;
     }
-    if !flag_right(h, s, w.gap, under_empty) {
-        return NOTHING;
+    let due = u16::from(w.gap == h.limits.shelf_width as u32);
+    if !audit_shelves::flag_right(s, due, under_empty) {
+        return None;
     }
-    w
+    Some(w)
 }
 
 // All the shelves, with their items and free lists.
-fn all_shelves(h: Header, shelves: &[u16], items: &[u16]) -> Found
+fn all_shelves(h: Header, shelves: &[u16], items: &[u16]) -> Option<Found>
     requires { Rule1 h shelves.now items.now }
-    ensures { FoundSo h shelves.now items.now result }
+    ensures { IfSome result (ShelvesFound h shelves.now items.now) }
 {
     let mut prev: u16 = NO_ROW;
     let mut column: u16 = 0;
@@ -117,17 +65,14 @@ fn all_shelves(h: Header, shelves: &[u16], items: &[u16]) -> Found
     let mut widths: u32 = 0;
     while cur < h.used_shelves {
         if fuel == 0 {
-            return WRONG;
+            return None;
         }
-        let s = shelf::shelf_there(shelves, ShelfIndex(cur));
+        let s = ShelfRow::there(shelves, ShelfIndex(cur));
         let end = y + s.height as u32;
-        if !placed(h, prev, column, y, end, s) {
-            return WRONG;
+        if !audit_shelves::shelf_placed(h, prev, column, y, end, s) {
+            return None;
         }
-        let w = one_shelf(h, items, cur, s, under_empty, count, widths);
-        if !w.right {
-            return WRONG;
-        }
+        let w = one_shelf(h, items, cur, s, under_empty, count, widths)?;
         count = w.count;
         area += (h.limits.shelf_width as u32 - w.gap) as u64 * s.height as u64;
         widths = w.widths;
@@ -143,18 +88,20 @@ fn all_shelves(h: Header, shelves: &[u16], items: &[u16]) -> Found
         }
     }
     if cur != NO_ROW {
-        return WRONG;
+        return None;
     }
     if y != 0 {
-        return WRONG;
+        return None;
     }
-    Found {
-        right: column == limit_checks::columns(h.limits),
+    if column != limit_checks::columns(h.limits) {
+        return None;
+    }
+    Some(Found {
         shelves: h.used_shelves - fuel,
         items: count,
         area,
         widths,
-    }
+    })
 }
 
 // The rows that no shelf or item chain holds: with those that one does they are all the used rows.
@@ -162,11 +109,10 @@ fn freed_right(h: Header, shelves: &[u16], items: &[u16], f: Found) -> bool
     requires { Rule1 h shelves.now items.now × (f.items ≤ h.used_items) }
     ensures { SaysYes result (FreedFound h shelves.now items.now f) }
 {
-    let s = audit_lists::freed_shelves(h, shelves);
-    if !s.right {
+    let Some(freed_shelves) = audit_lists::freed_shelves(h, shelves) else {
         return false;
-    }
-    if f.shelves as u64 + s.count as u64 != h.used_shelves as u64 {
+    };
+    if f.shelves as u64 + freed_shelves as u64 != h.used_shelves as u64 {
         return false;
     }
     let rest = h.used_items - f.items as u16;
@@ -178,13 +124,11 @@ fn each_aligned(items: &[u16], used: u16, step: u32) -> bool
     requires { (used ≤ item_capacity items.now) × (1 ≤ step) }
     ensures { Decides result (EachAligned items.now used step) }
 {
-    let mut row: u16 = 0;
-    while row < used {
-        let i = item::item_there(items, ItemIndex(row));
+    for row in 0..used {
+        let i = ItemRow::there(items, ItemIndex(row));
         if i.width as u32 % step != 0 {
             return false;
         }
-        row += 1;
     }
     true
 }
@@ -206,10 +150,9 @@ pub fn says_yes(h: Header, shelves: &[u16], items: &[u16]) -> bool
     requires { Rule1 h shelves.now items.now }
     ensures { SaysYes result (Passes h shelves.now items.now) }
 {
-    let f = all_shelves(h, shelves, items);
-    if !f.right {
+    let Some(f) = all_shelves(h, shelves, items) else {
         return false;
-    }
+    };
     if !widths_right(h, items, f.widths) {
         return false;
     }

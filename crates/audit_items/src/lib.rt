@@ -1,7 +1,7 @@
 // Rule 3: the items of each shelf. What rules 5 to 7 ask of the items is counted in the same pass.
 #![tactic(auto)]
 
-ghost use Rattle.std.specs.Prelude.{false, ◌≡◌, ◌+◌, ◌-◌, ◌%◌, ◌≤◌, eqb};
+ghost use Rattle.std.specs.Prelude.{false, ◌≡◌, ◌+◌, ◌%◌, ◌≤◌};
 ghost use Rattle.numbers.specs.Prelude.{Decides};
 ghost use Rattle.rows.specs.Prelude.{item_capacity};
 ghost use Rattle.rules.specs.Prelude.{ItemRight};
@@ -12,8 +12,8 @@ use numbers::axes;
 use numbers::index::{ItemIndex, NO_ROW, ShelfIndex};
 use rows::header::Header;
 use rows::item::ItemRow;
+use rows::row::Row;
 use rows::shelf::ShelfRow;
-use rows::{item, shelf};
 
 // Whether a width is a multiple of the alignment. Most atlases have an alignment of 1, and need no division.
 fn aligned(width: u32, step: u32) -> bool
@@ -65,30 +65,8 @@ fn strayed(i: ItemRow) -> u64
     131070 - i.prev_unallocated.0 as u64 - i.next_unallocated.0 as u64
 }
 
-const WRONG: Tally = Tally {
-    right: false,
-    count: 0,
-    free: 0,
-    live: 0,
-    stray: 0,
-};
-
-// What was counted along a shelf's items, at their end.
-fn tally(h: Header, s: ShelfRow, x: u32, count: u32, free: u32, gap: u32, stray: u64) -> Tally
-    requires { s.x + gap ≤ x }
-    ensures { result ≡ record { right = eqb x (s.x + h.limits.shelf_width); count = count; free = free; live = x - s.x - gap; stray = stray } }
-{
-    Tally {
-        right: x == s.x as u32 + h.limits.shelf_width as u32,
-        count,
-        free,
-        live: x - s.x as u32 - gap,
-        stray,
-    }
-}
-
 // The items of shelf `s`, which stands in row `on`. `edge` is 1 more than the place where the last free item ended, `gap` the width of the free items.
-pub fn items_of(h: Header, items: &[u16], on: u16, s: ShelfRow) -> Tally
+pub fn items_of(h: Header, items: &[u16], on: u16, s: ShelfRow) -> Option<Tally>
     requires { h.used_items ≤ item_capacity items.now }
     ensures { ShelfTallied h items.now on s result }
 {
@@ -101,9 +79,9 @@ pub fn items_of(h: Header, items: &[u16], on: u16, s: ShelfRow) -> Tally
     let mut stray: u64 = 0;
     let mut cur: u16 = s.first_item.0;
     while cur < h.used_items {
-        let i = item::item_there(items, ItemIndex(cur));
+        let i = ItemRow::there(items, ItemIndex(cur));
         if !item_right(h, on, prev, x, i) {
-            return WRONG;
+            return None;
         }
         let end = x + i.width as u32;
         count += 1;
@@ -113,7 +91,7 @@ pub fn items_of(h: Header, items: &[u16], on: u16, s: ShelfRow) -> Tally
             }
         } else {
             if edge == x + 1 {
-                return WRONG;
+                return None;
             }
             free += 1;
             gap += i.width as u32;
@@ -124,21 +102,28 @@ pub fn items_of(h: Header, items: &[u16], on: u16, s: ShelfRow) -> Tally
         cur = i.next.0;
     }
     if cur != NO_ROW {
-        return WRONG;
+        return None;
     }
     if (h.used_items as u32) < count {
-        return WRONG;
+        return None;
     }
-    tally(h, s, x, count, free, gap, stray)
+    if x != s.x as u32 + h.limits.shelf_width as u32 {
+        return None;
+    }
+    Some(Tally {
+        count,
+        free,
+        live: x - s.x as u32 - gap,
+        stray,
+    })
 }
 
 // Rule 3.
-pub fn all_items(h: Header, shelves: &[u16], items: &[u16]) -> Totals
+pub fn all_items(h: Header, shelves: &[u16], items: &[u16]) -> Option<Totals>
     requires { h.used_items ≤ item_capacity items.now }
     ensures { AllTallied h shelves.now items.now result }
 {
     let mut t = Totals {
-        right: true,
         shelves: 0,
         items: 0,
         free: 0,
@@ -146,24 +131,18 @@ pub fn all_items(h: Header, shelves: &[u16], items: &[u16]) -> Totals
         area: 0,
     };
     let mut cur: u16 = 0;
-    let mut fuel: u16 = h.used_shelves;
-    while fuel > 0 {
+    for _ in 0..h.used_shelves {
         if cur == NO_ROW {
-            return t;
+            return Some(t);
         }
-        let s = shelf::get_shelf(shelves, ShelfIndex(cur));
-        let of = items_of(h, items, cur, s);
-        if !of.right {
-            t.right = false;
-            return t;
-        }
+        let s = ShelfRow::get(shelves, ShelfIndex(cur));
+        let of = items_of(h, items, cur, s)?;
         t.shelves += 1;
         t.items += of.count;
         t.free += of.free;
         t.stray += of.stray;
         t.area += of.live as u64 * s.height as u64;
         cur = s.next.0;
-        fuel -= 1;
     }
-    t
+    Some(t)
 }

@@ -7,8 +7,11 @@ mod tables;
 ghost use Rattle.std.specs.Prelude.{◌≤◌, length};
 
 use audit::Verdict;
-use case::Case;
+use case::{Ask, Case, Part};
 use rows::header::Header;
+use rows::item::ItemRow;
+use rows::row::Row;
+use rows::shelf::ShelfRow;
 use std::io::Read;
 use tables::{FULL, HEADER, ITEMS, SHELVES};
 
@@ -17,40 +20,39 @@ fn say(rt: HostRuntime, text: &[u8]) {
 }
 
 fn told(rt: HostRuntime, v: Verdict) {
-    match v {
-        Verdict::Passes => say(rt, b"passes\n"),
-        Verdict::Rule1 => say(rt, b"rule 1\n"),
-        Verdict::Rule2 => say(rt, b"rule 2\n"),
-        Verdict::Rule3 => say(rt, b"rule 3\n"),
-        Verdict::Rules5To7 => say(rt, b"rules 5 to 7\n"),
-    }
+    let _ = println!(rt; "{v}");
 }
 
 // What is left of a table's length.
 fn left(length: usize, short: u16) -> usize
     ensures { result ≤ length }
 {
-    if short as usize > length {
-        return 0;
-    }
-    length - short as usize
+    length.saturating_sub(short as usize)
 }
 
 fn header(c: Case) -> Header {
     let mut h = tables::header_numbers(c.of);
-    tables::set(&mut h, case::place(c, b'h', HEADER), c.value);
+    tables::set(&mut h, case::place(c, Part::Header, HEADER), c.value);
     tables::header_of(&h)
 }
 
 fn shelf_table(c: Case) -> [u16; SHELVES] {
     let mut s = tables::shelf_numbers(c.of);
-    tables::set(&mut s, case::place(c, b's', rows::shelf::NUMBERS), c.value);
+    tables::set(
+        &mut s,
+        case::place(c, Part::ShelfRow, ShelfRow::NUMBERS),
+        c.value,
+    );
     s
 }
 
 fn item_table(c: Case) -> [u16; ITEMS] {
     let mut i = tables::item_numbers(c.of);
-    tables::set(&mut i, case::place(c, b'i', rows::item::NUMBERS), c.value);
+    tables::set(
+        &mut i,
+        case::place(c, Part::ItemRow, ItemRow::NUMBERS),
+        c.value,
+    );
     i
 }
 
@@ -88,49 +90,26 @@ fn clear(rt: HostRuntime, c: Case) {
 }
 
 fn run(rt: HostRuntime, c: Case) {
-    if c.ask == b'c' {
-        clear(rt, c);
-    } else if c.ask == b'l' {
-        audit_large(rt, c);
-    } else {
-        audit(rt, c);
+    match c.ask {
+        Ask::Clear => clear(rt, c),
+        Ask::AuditLargest => audit_large(rt, c),
+        Ask::Audit => audit(rt, c),
     }
 }
 
 // A line that says what its columns hold is no case.
 fn run_line(rt: HostRuntime, line: &[u8]) {
-    if line.len() < case::NAME {
+    if line.len() < case::NAME || line[0] == b'#' {
         return;
     }
-    if line[0] == b'#' {
-        return;
-    }
-    say(rt, &line[case::NAME..line.len()]);
+    say(rt, &line[case::NAME..]);
     say(rt, b": ");
     run(rt, case::case_of(line));
 }
 
-fn line_end(text: &[u8], from: usize) -> usize
-    requires { from ≤ length text.now }
-    ensures lower_bound { from ≤ result }
-    ensures upper_bound { result ≤ length text.now }
-{
-    let mut e = from;
-    while e < text.len() {
-        if text[e] == b'\n' {
-            return e;
-        }
-        e += 1;
-    }
-    e
-}
-
 fn run_lines(rt: HostRuntime, text: &[u8]) {
-    let mut from: usize = 0;
-    while from < text.len() {
-        let end = line_end(text, from);
-        run_line(rt, &text[from..end]);
-        from = end + 1;
+    for line in text.split(|byte| *byte == b'\n') {
+        run_line(rt, line);
     }
 }
 
@@ -154,5 +133,5 @@ fn read_full(rt: HostRuntime, buf: &mut [u8]) -> usize
 fn main(rt: HostRuntime) {
     let mut table = [0u8; 8192];
     let n = read_full(rt, &mut table);
-    run_lines(rt, &table[0..n]);
+    run_lines(rt, &table[..n]);
 }

@@ -1,16 +1,19 @@
 // Two sound atlases to damage, number by number: a fresh one, and one after document 01's whole case with a few rows freed. 2048 x 2048, alignments 4 and
 // 8, two columns.
+use crate::case::Atlas;
 use numbers::index::{ItemIndex, ShelfIndex};
 use numbers::limits::Limits;
 use rows::header::Header;
-use rows::{item, shelf};
+use rows::item::ItemRow;
+use rows::row::Row;
+use rows::shelf::ShelfRow;
 
 // The lengths of the tables: five shelf rows and nine item rows; and of an item table with all the rows that there can be.
-pub const SHELVES: usize = 5 * shelf::NUMBERS;
+pub const SHELVES: usize = 5 * ShelfRow::NUMBERS;
 
-pub const ITEMS: usize = 9 * item::NUMBERS;
+pub const ITEMS: usize = 9 * ItemRow::NUMBERS;
 
-pub const FULL: usize = 65535 * item::NUMBERS;
+pub const FULL: usize = 65535 * ItemRow::NUMBERS;
 
 // A header's ten numbers of 16 bits, then the occupied total in two.
 pub const HEADER: usize = 12;
@@ -21,18 +24,13 @@ const UNUSED_HEADER: [u16; HEADER] = [2048, 2048, 4, 8, 0, 1024, 0, 0, 65535, 65
 
 const USED_HEADER: [u16; HEADER] = [2048, 2048, 4, 8, 0, 1024, 5, 9, 8, 4, 2176, 0];
 
-// A letter for each header: that of a fresh atlas, that of one without used rows, that of an atlas in use; else that of no atlas.
-pub fn header_numbers(of: u8) -> [u16; HEADER] {
-    if of == b'f' {
-        return FRESH_HEADER;
+pub fn header_numbers(of: Atlas) -> [u16; HEADER] {
+    match of {
+        Atlas::Fresh => FRESH_HEADER,
+        Atlas::Unused => UNUSED_HEADER,
+        Atlas::InUse => USED_HEADER,
+        Atlas::Zeros => [0; HEADER],
     }
-    if of == b'e' {
-        return UNUSED_HEADER;
-    }
-    if of == b'u' {
-        return USED_HEADER;
-    }
-    [0; HEADER]
 }
 
 fn total(low: u16, high: u16) -> u32 {
@@ -75,11 +73,11 @@ const USED_SHELVES: [u16; SHELVES] = [
     1968, 2, 1, 4, 4, 1, 0, 0, 0, 0, 65535, 0, 0, 0,
 ];
 
-pub fn shelf_numbers(of: u8) -> [u16; SHELVES] {
-    if of == b'f' {
-        return FRESH_SHELVES;
+pub fn shelf_numbers(of: Atlas) -> [u16; SHELVES] {
+    match of {
+        Atlas::Fresh => FRESH_SHELVES,
+        _ => USED_SHELVES,
     }
-    USED_SHELVES
 }
 
 const FRESH_ITEMS: [u16; ITEMS] = [
@@ -97,25 +95,24 @@ const USED_ITEMS: [u16; ITEMS] = [
     0, 0, 1, 0, 0, 0, 65535, 0, 0, 0, 0, 1, 0, 0, 0, 7, 0, 0, 0, 0, 3,
 ];
 
-pub fn item_numbers(of: u8) -> [u16; ITEMS] {
-    if of == b'f' {
-        return FRESH_ITEMS;
+pub fn item_numbers(of: Atlas) -> [u16; ITEMS] {
+    match of {
+        Atlas::Fresh => FRESH_ITEMS,
+        _ => USED_ITEMS,
     }
-    USED_ITEMS
 }
 
 // Item rows at the front of the largest table.
 pub fn put_items(items: &mut [u16; FULL], numbers: [u16; ITEMS]) {
-    let mut at: usize = 0;
-    while at < ITEMS {
-        items[at] = numbers[at];
-        at += 1;
-    }
+    items[..ITEMS].copy_from_slice(&numbers);
 }
 
 // One number replaced, where there is one.
-pub fn set(numbers: &mut [u16], at: usize, n: u16) {
-    if at < numbers.len() {
-        numbers[at] = n;
+pub fn set(numbers: &mut [u16], at: Option<usize>, n: u16) {
+    let Some(at) = at else {
+        return;
+    };
+    if let Some(number) = numbers.get_mut(at) {
+        *number = n;
     }
 }

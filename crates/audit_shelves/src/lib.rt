@@ -1,15 +1,16 @@
 // Rule 2: the shelf chain.
 #![tactic(auto)]
 
-ghost use Rattle.std.specs.Prelude.{◌≡◌};
+ghost use Rattle.std.specs.Prelude.{◌≡◌, ◌+◌};
 ghost use Rattle.numbers.specs.Prelude.{Decides};
 ghost use Rattle.rules.specs.Prelude.{ShelfRight, Rule2, one_free_of, flag};
 ghost use Rattle.audit_shelves.specs.Placed.{ShelfPlaced, FlagRight};
 
 use numbers::index::{ItemIndex, NO_ROW, ShelfIndex};
 use rows::header::Header;
+use rows::item::ItemRow;
+use rows::row::Row;
 use rows::shelf::ShelfRow;
-use rows::{item, shelf};
 
 // What a shelf's empty flag has to be, by its first item: 1 if that is a used row, free, with no next.
 fn empty_flag(h: Header, items: &[u16], first: ItemIndex) -> u16
@@ -18,7 +19,7 @@ fn empty_flag(h: Header, items: &[u16], first: ItemIndex) -> u16
     if first.0 >= h.used_items {
         return 0;
     }
-    let i = item::get_item(items, first);
+    let i = ItemRow::get(items, first);
     if i.allocated != 0 {
         return 0;
     }
@@ -28,8 +29,9 @@ fn empty_flag(h: Header, items: &[u16], first: ItemIndex) -> u16
     1
 }
 
-// Whether a shelf stands where the walk has come to.
-fn shelf_placed(h: Header, prev: u16, column: u16, y: u16, s: ShelfRow) -> bool
+// Whether a shelf stands where the walk has come to, from y to `end`. Depths have 32 bits here, so that they are added once (measured).
+pub fn shelf_placed(h: Header, prev: u16, column: u16, y: u32, end: u32, s: ShelfRow) -> bool
+    requires { end ≡ y + s.height }
     ensures { Decides result (ShelfPlaced h prev column y s) }
 {
     if s.prev.0 != prev {
@@ -38,20 +40,17 @@ fn shelf_placed(h: Header, prev: u16, column: u16, y: u16, s: ShelfRow) -> bool
     if s.x as u32 != column as u32 * h.limits.shelf_width as u32 {
         return false;
     }
-    if s.y != y {
+    if s.y as u32 != y {
         return false;
     }
     if s.height == 0 {
         return false;
     }
-    if (h.limits.height as u32) < y as u32 + s.height as u32 {
-        return false;
-    }
-    true
+    end <= h.limits.height as u32
 }
 
 // Whether a shelf has the flag that is due, and no empty shelf follows an empty one.
-fn flag_right(s: ShelfRow, due: u16, under_empty: bool) -> bool
+pub fn flag_right(s: ShelfRow, due: u16, under_empty: bool) -> bool
     ensures { Decides result (FlagRight s due under_empty) }
 {
     if s.is_empty != due {
@@ -75,7 +74,8 @@ fn shelf_right(
 ) -> bool
     ensures { Decides result (ShelfRight h items.now (record { prev = prev; column = column; y = y; under_empty = under_empty }) s) }
 {
-    if !shelf_placed(h, prev, column, y, s) {
+    let end = y as u32 + s.height as u32;
+    if !shelf_placed(h, prev, column, y as u32, end, s) {
         return false;
     }
     flag_right(s, empty_flag(h, items, s.first_item), under_empty)
@@ -90,21 +90,19 @@ pub fn shelves_right(h: Header, shelves: &[u16], items: &[u16]) -> bool
     let mut y: u16 = 0;
     let mut under_empty = false;
     let mut cur: u16 = 0;
-    let mut fuel: u16 = h.used_shelves;
-    while cur != NO_ROW {
-        if fuel == 0 {
-            return false;
+    for _ in 0..h.used_shelves {
+        if cur == NO_ROW {
+            break;
         }
         if cur >= h.used_shelves {
             return false;
         }
-        let s = shelf::get_shelf(shelves, ShelfIndex(cur));
+        let s = ShelfRow::get(shelves, ShelfIndex(cur));
         if !shelf_right(h, items, prev, column, y, under_empty, s) {
             return false;
         }
         prev = cur;
         cur = s.next.0;
-        fuel -= 1;
         y += s.height;
         under_empty = s.is_empty == 1;
         if y == h.limits.height {
@@ -112,6 +110,9 @@ pub fn shelves_right(h: Header, shelves: &[u16], items: &[u16]) -> bool
             y = 0;
             under_empty = false;
         }
+    }
+    if cur != NO_ROW {
+        return false;
     }
     if y != 0 {
         return false;

@@ -1,7 +1,7 @@
 -- One turn of `items_right`: a run of live items, then a free one, then the live one that has to follow it. Assumes nothing.
 use Rattle.std.specs.Prelude.{◌≡◌, ◌≢◌, ◌+◌, ◌-◌, ◌≤◌, ◌<◌}
-use Rattle.numbers.specs.Library.{refl, ap, true, false, List, [], ℕ, arith, ltb, lt-ltb, le-ltb, dec_lt}
-use Rattle.numbers.specs.Prelude.{no_row, pick, never}
+use Rattle.numbers.specs.Library.{refl, ap, List, [], ℕ, arith, ltb, lt-ltb, le-ltb, dec_lt}
+use Rattle.numbers.specs.Prelude.{no_row, pick}
 use Rattle.rows.specs.Prelude.{get, items}
 use Rattle.rows.specs.declared.{header.Header.Header, item.ItemRow.ItemRow, shelf.ShelfRow.ShelfRow}
 use Rattle.audit_counts.specs.Counts.{Small}
@@ -10,10 +10,6 @@ use Rattle.audit_counts.proofs.FastTurns.{OnShelf, on_begins, on_free, on_live, 
 use Rattle.fast_items.specs.declared.{Passed.Passed, Walked.Walked}
 use Rattle.fast_items.specs.Walks.{mark_of, start_of, passed, Near, Kept, LivesPast, EndsSo, Walks}
 use Rattle.fast_items.proofs.Places.{near_fits, few_behind, kept_told}
-
--- nothing is promised of no
-pub wrong : {h : Header} {I : List ℕ} {on : ℕ} {s : ShelfRow} {met all : ℕ} → Walks h I on s met all (record { right = false; count = 0; free = 0; gap = 0; widths = 0 })
-wrong = record { tallied = never; more = never; few = never; gap_most = never; free_most = never; even = never }
 
 -- What the walk has found at p, where that is below 65536; where a row is there, no free item ends before it.
 pub record Exact (h : Header) (I : List ℕ) (on : ℕ) (s : ShelfRow) (met all free gap : ℕ) (p : Passed) : Type 0 where
@@ -44,25 +40,25 @@ module _ {h : Header} {I : List ℕ} {on : ℕ} {s : ShelfRow} {met all free gap
   -- at the end
   pub at_ended : {w : Walked} → EndsSo h s p free gap w → Walks h I on s met all w
   at_ended {w} o =
-      let there : (e : w.right ≡ true) → OnShelf h I on s met all (at.exact (o.ended e).narrow).edge free gap (mark_of p) = λ e. (at.exact (o.ended e).narrow).on_shelf in
+      let there = (at.exact o.ended.narrow).on_shelf in
       record {
-        tallied = λ e. rw (o.counts e) (on_tallied (there e) (o.ended e).stop (o.ended e).few (o.ended e).wide);
-        more = λ e. rw (o.counts e) (on_more (there e) (o.ended e).stop (o.ended e).few (o.ended e).wide);
-        few = λ e. rw (o.counts e) (o.ended e).few;
-        gap_most = λ e. rw (o.counts e) (on_gap (there e) (o.ended e).stop (o.ended e).few (o.ended e).wide);
-        free_most = λ e. let fewer : free ≤ h.used_items = omega (arith, at.free_most, (o.ended e).few) in rw (o.counts e) fewer;
-        even = λ e. rw (o.counts e) (on_even (there e) (o.ended e).stop (o.ended e).few (o.ended e).wide);
+        tallied = rw o.counts (on_tallied there o.ended.stop o.ended.few o.ended.wide);
+        more = rw o.counts (on_more there o.ended.stop o.ended.few o.ended.wide);
+        few = rw o.counts o.ended.few;
+        gap_most = rw o.counts (on_gap there o.ended.stop o.ended.few o.ended.wide);
+        free_most = let fewer : free ≤ h.used_items = omega (arith, at.free_most, o.ended.few) in rw o.counts fewer;
+        even = rw o.counts (on_even there o.ended.stop o.ended.few o.ended.wide);
       }
 
   -- past live items
-  pub at_lives : p.cur < h.used_items → {r : Passed} → LivesPast I h.used_items on p r → r.right ≡ true → At h I on s met all free gap r
-  at_lives u l e = record {
+  pub at_lives : p.cur < h.used_items → {r : Passed} → LivesPast I h.used_items on p r → At h I on s met all free gap r
+  at_lives u l = record {
     kept = l.kept;
     free_most = omega (arith, at.free_most, l.more);
     gap_most = omega (arith, at.gap_most, l.further);
     exact = λ b.
         let was = at.exact (omega (arith, b, l.further)) in
-        let ran = on_lives was.on_shelf (was.apart u) (l.lives e b) in
+        let ran = on_lives was.on_shelf (was.apart u) (l.lives b) in
         record { edge = was.edge; on_shelf = ran.0; apart = λ v. ran.1 };
   }
 

@@ -1,6 +1,6 @@
 -- What the walk of a shelf's items tells: where a run of live items ends, and what a shelf's items are if it says yes. Assumes nothing.
-use Rattle.std.specs.Prelude.{◌+◌, ◌-◌, ◌*◌, ◌%◌, ◌≤◌, ◌≡◌}
-use Rattle.numbers.specs.Library.{ℕ, true, List, length}
+use Rattle.std.specs.Prelude.{◌+◌, ◌-◌, ◌*◌, ◌%◌, ◌≤◌, ◌≡◌, Some}
+use Rattle.numbers.specs.Library.{ℕ, List, length}
 use Rattle.std.specs.Int.Bits.{bit_or}
 use Rattle.numbers.specs.Prelude.{no_row}
 use Rattle.rows.specs.Prelude.{get, items, item_start}
@@ -18,12 +18,11 @@ mark_of p = record { cur = p.cur; prev = p.prev; x = p.x; count = p.count; width
 
 -- before the first item of shelf s, after `met` items of other shelves
 abbrev pub start_of : ShelfRow → (met all : ℕ) → Passed
-start_of s met all = record { right = true; cur = s.first_item.0; start = item_start s.first_item.0; prev = no_row; x = s.x; count = met; widths = all }
+start_of s met all = record { cur = s.first_item.0; start = item_start s.first_item.0; prev = no_row; x = s.x; count = met; widths = all }
 
 -- past the item i
 abbrev pub passed : Passed → ItemRow → Passed
 passed p i = record {
-  right = true;
   cur = i.next.0;
   start = item_start i.next.0;
   prev = p.cur;
@@ -62,24 +61,22 @@ pub record Ended (h : Header) (s : ShelfRow) (p : Passed) : Type 0 where
 
 -- from p on, live items were passed, and no others, if the place is below 65536
 pub record LivesPast (I : List ℕ) (used on : ℕ) (p r : Passed) : Type 0 where
-  pub lives : r.right ≡ true → r.x ≤ 65535 → Lives I used on (mark_of p) (mark_of r)
+  pub lives : r.x ≤ 65535 → Lives I used on (mark_of p) (mark_of r)
   pub kept : Kept I used r
   pub more : p.count ≤ r.count
   pub further : p.x ≤ r.x
 
--- yes at the end of a shelf's items, and then these counts
+-- at the end of a shelf's items, and these are the counts
 pub record EndsSo (h : Header) (s : ShelfRow) (p : Passed) (free gap : ℕ) (w : Walked) : Type 0 where
-  pub ended : w.right ≡ true → Ended h s p
-  pub counts : w.right ≡ true → w ≡ record { right = true; count = p.count; free = free; gap = gap; widths = p.widths }
+  pub ended : Ended h s p
+  pub counts : w ≡ record { count = p.count; free = free; gap = gap; widths = p.widths }
 
--- Where the walk of the shelf in row `on` says yes, its items are right but for their alignment, and these are the counts. Those of items go on from `met`,
--- and the widths are or-ed to `all`.
+-- The items of the shelf in row `on` are right but for their alignment, and these are the counts. Those of items go on from `met`, and the widths are or-ed
+-- to `all`.
 pub record Walks (h : Header) (I : List ℕ) (on : ℕ) (s : ShelfRow) (met all : ℕ) (w : Walked) : Type 0 where
-  pub tallied :
-      w.right ≡ true
-      → ShelfTallied (loose h) I on s (record { right = true; count = w.count - met; free = w.free; live = h.limits.shelf_width - w.gap; stray = 0 })
-  pub more : w.right ≡ true → met ≤ w.count
-  pub few : w.right ≡ true → w.count ≤ h.used_items
-  pub gap_most : w.right ≡ true → w.gap ≤ h.limits.shelf_width
-  pub free_most : w.right ≡ true → w.free ≤ h.used_items
-  pub even : w.right ≡ true → Even h I s all w.widths
+  pub tallied : ShelfTallied (loose h) I on s (Some (record { count = w.count - met; free = w.free; live = h.limits.shelf_width - w.gap; stray = 0 }))
+  pub more : met ≤ w.count
+  pub few : w.count ≤ h.used_items
+  pub gap_most : w.gap ≤ h.limits.shelf_width
+  pub free_most : w.free ≤ h.used_items
+  pub even : Even h I s all w.widths

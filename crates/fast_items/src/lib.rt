@@ -1,7 +1,7 @@
 // The items of a shelf, in one walk that can say yes and nothing else. It leaves their alignment to one test at the end of all walks: widths are or-ed.
 #![tactic(auto)]
 
-ghost use Rattle.std.specs.Prelude.{◌≡◌, ◌≤◌};
+ghost use Rattle.std.specs.Prelude.{◌≡◌, ◌≤◌, IfSome};
 ghost use Rattle.numbers.specs.Prelude.{Decides};
 ghost use Rattle.rows.specs.Prelude.{item_capacity};
 ghost use Rattle.audit_counts.specs.Fast.{LiveOf};
@@ -13,11 +13,10 @@ use rows::item;
 use rows::item::ItemRow;
 use rows::shelf::ShelfRow;
 
-// Where a walk along the items of a shelf has come to, if all was right: the row and where it starts, the row before, the place; how many items were
+// Where a walk along the items of a shelf has come to: the row and where it starts, the row before, the place; how many items were
 // passed, on this shelf and on those before it, and their widths, or-ed.
 #[derive(Clone, Copy)]
 pub struct Passed {
-    pub right: bool,
     pub cur: usize,
     pub start: usize,
     pub prev: u16,
@@ -26,10 +25,10 @@ pub struct Passed {
     pub widths: u32,
 }
 
-// Whether the items are right, and then how many were passed up to here, how many of them are free and how wide these are together, and all widths, or-ed.
+// What was counted where the items of a shelf are right: how many were passed up to here, how many of them are free and how wide these are together, and all
+// widths, or-ed.
 #[derive(Clone, Copy)]
 pub struct Walked {
-    pub right: bool,
     pub count: u32,
     pub free: u32,
     pub gap: u32,
@@ -66,7 +65,6 @@ fn past(p: Passed, i: ItemRow) -> Passed
     ensures { result ≡ passed p i }
 {
     Passed {
-        right: true,
         cur: i.next.0 as usize,
         start: item::item_start(i.next),
         prev: p.cur as u16,
@@ -77,30 +75,22 @@ fn past(p: Passed, i: ItemRow) -> Passed
 }
 
 // On past the live items. A loop of their own, since most items are live: it carries no more than they need.
-fn lives(items: &[u16], used: u16, on: u16, from: Passed) -> Passed
+fn lives(items: &[u16], used: u16, on: u16, from: Passed) -> Option<Passed>
     requires { (used ≤ item_capacity items.now) × Kept items.now used from }
-    ensures { LivesPast items.now used on from result }
+    ensures { IfSome result (LivesPast items.now used on from) }
 {
     let mut p = from;
     while p.cur < used as usize {
         let i = item::item_from(items, p.cur, p.start);
         if !live_of(on, i) {
-            return p;
+            return Some(p);
         }
         if !fits(p.prev, p.x, i) {
-            return Passed {
-                right: false,
-                cur: p.cur,
-                start: p.start,
-                prev: p.prev,
-                x: p.x,
-                count: p.count,
-                widths: p.widths,
-            };
+            return None;
         }
         p = past(p, i);
     }
-    p
+    Some(p)
 }
 
 // Before the first item of a shelf. `met` items were passed on the shelves before it, and the widths are or-ed to `all`, which is theirs.
@@ -108,7 +98,6 @@ fn first(s: ShelfRow, met: u32, all: u32) -> Passed
     ensures { result ≡ start_of s met all }
 {
     Passed {
-        right: true,
         cur: s.first_item.0 as usize,
         start: item::item_start(s.first_item),
         prev: NO_ROW,
@@ -118,60 +107,55 @@ fn first(s: ShelfRow, met: u32, all: u32) -> Passed
     }
 }
 
-const WRONG: Walked = Walked {
-    right: false,
-    count: 0,
-    free: 0,
-    gap: 0,
-    widths: 0,
-};
-
 // What was counted along a shelf's items, at their end.
-fn at_end(h: Header, s: ShelfRow, p: Passed, free: u32, gap: u32) -> Walked
-    ensures { EndsSo h s p free gap result }
+fn at_end(h: Header, s: ShelfRow, p: Passed, free: u32, gap: u32) -> Option<Walked>
+    ensures { IfSome result (EndsSo h s p free gap) }
 {
     if p.cur != NO_ROW as usize {
-        return WRONG;
+        return None;
     }
     if (h.used_items as u32) < p.count {
-        return WRONG;
+        return None;
     }
     let end = s.x as u32 + h.limits.shelf_width as u32;
     if p.x != end {
-        return WRONG;
+        return None;
     }
     if 65535 < end {
-        return WRONG;
+        return None;
     }
-    Walked {
-        right: true,
+    Some(Walked {
         count: p.count,
         free,
         gap,
         widths: p.widths,
-    }
+    })
 }
 
 // The items of shelf `s`, which stands in row `on`: runs of live items, and between them a free one, which no free one follows.
-pub fn items_right(h: Header, items: &[u16], on: u16, s: ShelfRow, met: u32, all: u32) -> Walked
+pub fn items_right(
+    h: Header,
+    items: &[u16],
+    on: u16,
+    s: ShelfRow,
+    met: u32,
+    all: u32,
+) -> Option<Walked>
     requires { (h.used_items ≤ item_capacity items.now) × (met ≤ 65535) }
-    ensures { Walks h items.now on s met all result }
+    ensures { IfSome result (Walks h items.now on s met all) }
 {
     let mut p = first(s, met, all);
     let mut free: u32 = 0;
     let mut gap: u32 = 0;
     while p.cur < h.used_items as usize {
-        p = lives(items, h.used_items, on, p);
-        if !p.right {
-            return WRONG;
-        }
+        p = lives(items, h.used_items, on, p)?;
         if p.cur < h.used_items as usize {
             let i = item::item_from(items, p.cur, p.start);
             if !fits(p.prev, p.x, i) {
-                return WRONG;
+                return None;
             }
             if !fast_lists::free_of(on, i) {
-                return WRONG;
+                return None;
             }
             free += 1;
             gap += i.width as u32;
@@ -179,10 +163,10 @@ pub fn items_right(h: Header, items: &[u16], on: u16, s: ShelfRow, met: u32, all
             if p.cur < h.used_items as usize {
                 let j = item::item_from(items, p.cur, p.start);
                 if !live_of(on, j) {
-                    return WRONG;
+                    return None;
                 }
                 if !fits(p.prev, p.x, j) {
-                    return WRONG;
+                    return None;
                 }
                 p = past(p, j);
             }

@@ -12,8 +12,8 @@ ghost use Rattle.audit_counts.specs.Fast.{FreeOf};
 
 use numbers::index::{ItemIndex, NO_ROW};
 use rows::header::Header;
-use rows::item;
 use rows::item::ItemRow;
+use rows::row::Row;
 
 // Whether an item is free, and of the shelf in row `on`. The two numbers stand side by side, so that they are read and compared at once.
 pub fn free_of(on: u16, i: ItemRow) -> bool
@@ -31,12 +31,11 @@ pub fn free_list(h: Header, items: &[u16], on: u16, first: usize, free: u32) -> 
 {
     let mut prev: u16 = NO_ROW;
     let mut cur: usize = first;
-    let mut left = free;
-    while 0 < left {
+    for _ in 0..free {
         if cur >= h.used_items as usize {
             return false;
         }
-        let i = item::item_there(items, ItemIndex(cur as u16));
+        let i = ItemRow::there(items, ItemIndex(cur as u16));
         if i.prev_unallocated.0 != prev {
             return false;
         }
@@ -45,7 +44,6 @@ pub fn free_list(h: Header, items: &[u16], on: u16, first: usize, free: u32) -> 
         }
         prev = cur as u16;
         cur = i.next_unallocated.0 as usize;
-        left -= 1;
     }
     cur == NO_ROW as usize
 }
@@ -56,17 +54,15 @@ pub fn freed_items(h: Header, items: &[u16], head: usize, rest: u16) -> bool
     ensures { Decides result (FreedItems h items.now × (length (freed_items_met h items.now) ≡ rest)) }
 {
     let mut row: usize = head;
-    let mut left = rest;
-    while 0 < left {
+    for _ in 0..rest {
         if row >= h.used_items as usize {
             return false;
         }
-        let i = item::item_there(items, ItemIndex(row as u16));
+        let i = ItemRow::there(items, ItemIndex(row as u16));
         if !pool::is_freed_item(i) {
             return false;
         }
         row = i.next.0 as usize;
-        left -= 1;
     }
     row == NO_ROW as usize
 }

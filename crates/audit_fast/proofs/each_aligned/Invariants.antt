@@ -1,10 +1,6 @@
 -- `each_aligned`: the rows before this one are aligned.
-use Rattle.std.specs.Prelude.{◌-◌}
 use Rattle.audit_fast.specs.Found.{EachAligned}
 use Rattle.audit_fast.proofs.each_aligned.Given as goal
 
 abbrev pub invariant-loop-row : goal.invariant-loop-row
 invariant-loop-row l = EachAligned l.items l.row l.step
-
-abbrev pub decreases-loop-row : goal.decreases-loop-row
-decreases-loop-row l = l.used - l.row

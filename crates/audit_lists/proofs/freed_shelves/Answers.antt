@@ -1,24 +1,10 @@
 use Rattle.numbers.specs.Library.{arith}
-use Rattle.audit_counts.proofs.ListTurns.{freed_shelves_begin, freed_too_many, freed_unused, freed_wrong, freed_past, freed_told}
-use Rattle.numbers.specs.Library.{ap, not}
+use Rattle.audit_counts.proofs.ListTurns.{freed_shelves_begin, past_row}
 use Rattle.audit_lists.proofs.freed_shelves.Goals as goal
 
-pub loop-cur-init : goal.loop-cur-init
-loop-cur-init c = freed_shelves_begin _ _ (omega arith)
+pub loop-count-init : goal.loop-count-init
+loop-count-init c = freed_shelves_begin _ _ (omega arith)
 
-pub returns-then-fuel-eq0 : goal.returns-then-fuel-eq0
-returns-then-fuel-eq0 c = freed_too_many c.loop-cur.invariant c.loop-cur-test.true c.if-fuel-eq0.true
-
-pub returns-then-cur-h : goal.returns-then-cur-h
-returns-then-cur-h c = freed_unused c.loop-cur.invariant c.loop-cur-test.true (omega arith)
-
-pub returns-then-not-is_freed_shelf : goal.returns-then-not-is_freed_shelf
-returns-then-not-is_freed_shelf c =
-    freed_wrong c.loop-cur.invariant c.loop-cur-test.true _ c.get_shelf-s.ensures c.is_freed_shelf.ensures (ap not c.if-not-is_freed_shelf.true)
-
-pub loop-cur-preserved : goal.loop-cur-preserved
-loop-cur-preserved c =
-    freed_past c.loop-cur.invariant c.loop-cur-test.true _ c.get_shelf-s.ensures c.is_freed_shelf.ensures (ap not c.if-not-is_freed_shelf.false) (omega arith) (omega arith)
-
-pub returns : goal.returns
-returns c = freed_told c.loop-cur.invariant c.loop-cur-test.false
+pub loop-count-preserved : goal.loop-count-preserved
+loop-count-preserved c =
+    past_row c.loop-count.invariant c.if-cur.false _ c.get-s.ensures (omega arith) (omega arith) (c.is_freed_shelf.ensures.sound c.if-not-is_freed_shelf.false)

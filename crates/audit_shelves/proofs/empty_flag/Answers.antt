@@ -6,12 +6,12 @@ pub returns-then-first-h : goal.returns-then-first-h
 returns-then-first-h c = flag_unused _ _ _ c.if-first-h.true
 
 pub returns-then-i-ne0 : goal.returns-then-i-ne0
-returns-then-i-ne0 c = flag_live _ _ _ c.if-first-h.false (rw c.get_item-i.ensures at c.if-i-ne0.true)
+returns-then-i-ne0 c = flag_live _ _ _ c.if-first-h.false (rw c.get-i.ensures at c.if-i-ne0.true)
 
 pub returns-then-i : goal.returns-then-i
 returns-then-i c =
-    flag_followed _ _ _ c.if-first-h.false (rw c.get_item-i.ensures at c.if-i-ne0.false) (rw c.get_item-i.ensures at c.if-i.true)
+    flag_followed _ _ _ c.if-first-h.false (rw c.get-i.ensures at c.if-i-ne0.false) (rw c.get-i.ensures at c.if-i.true)
 
 pub returns : goal.returns
 returns c =
-    flag_alone _ _ _ c.if-first-h.false (rw c.get_item-i.ensures at c.if-i-ne0.false) (rw c.get_item-i.ensures at c.if-i.false)
+    flag_alone _ _ _ c.if-first-h.false (rw c.get-i.ensures at c.if-i-ne0.false) (rw c.get-i.ensures at c.if-i.false)
