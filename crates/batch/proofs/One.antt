@@ -1,5 +1,5 @@
 -- A release as a list of one request: what the loop leaves after it is what the call promises. Assumes nothing.
-use Rattle.std.specs.Prelude.{◌≤◌, ◌≡◌, ◌∷◌}
+use Rattle.std.specs.Prelude.{◌≤◌, ◌≡◌, ◌∷◌, Ok}
 use Rattle.numbers.specs.Library.{ℕ, refl, true, List, [], length, arith}
 use Rattle.rows.specs.Prelude.{rows, get, fit_rows}
 use Rattle.rows.specs.Row.{get_in}
@@ -8,8 +8,7 @@ use Rattle.rules.specs.Prelude.{Atlas, room_in, atlas_in, Passes, gives, mapped,
 use Rattle.rules.specs.Step as told
 use Rattle.live_rows.specs.Live.{is_live_of}
 use Rattle.bridge.proofs.Calls.{release_done}
-use Rattle.promises.specs.Prelude.{replies, Releases}
-use Rattle.promises.specs.declared.answers.Reply.TheVariants as reply
+use Rattle.promises.specs.Prelude.{says, replies, Releases}
 use Rattle.promises.proofs.Numbered.{answered, release_numbered}
 use Rattle.promises.proofs.Cases.{owed, does}
 use Rattle.batch_rules.specs.Asked.{askings, tolds, call_of}
@@ -34,13 +33,13 @@ module _ (h : Header) (S I : List ℕ) (row generation : ℕ) where
   after a is = rw (asking, is)
 
   pub releases_one : Passes h S I → is_live_of h I row generation ≡ true → (out : List ℕ) (header : Header) (S' I' out' : List ℕ)
-      → ServesFirst h S I (2 ∷ row ∷ generation ∷ []) out 1 header S' I' out' → Releases h S I row generation (record { answer = reply.Done; header = header }) S' I'
-  unfolding Releases Asks step_in mapped tells replies
+      → ServesFirst h S I (2 ∷ row ∷ generation ∷ []) out 1 header S' I' out' → Releases h S I row generation (record { answer = (Ok tt); header = header }) S' I'
+  unfolding Releases Asks step_in mapped tells replies says
   releases_one p e out header S' I' out' served =
       does (Release row generation) _ h S I (owed p) header S' I' refl (λ p.
       let (a, is, becomes) = release_done h S I p row generation e in (
         tells a told.done,
         rw is,
-        answered (release_numbered row generation) reply.Done refl,
+        answered (release_numbered row generation) (Ok tt) refl,
         rw (after a is) at served.becomes,
       ))

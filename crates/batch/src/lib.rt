@@ -1,18 +1,19 @@
 // A batch: requests one after the other on one audit. Beyond document 01; each request is answered as its single call would answer it.
 #![tactic(auto)]
 
-ghost use Rattle.std.specs.Prelude.{◌≡◌, ◌≤◌};
+ghost use Rattle.std.specs.Prelude.{◌≤◌};
 ghost use Rattle.rows.specs.Prelude.{rows};
 ghost use Rattle.rules.specs.Prelude.{Passes};
 ghost use Rattle.promises.specs.Prelude.{Releases};
 ghost use Rattle.batch_rules.specs.Asked.{askings, tolds};
 ghost use Rattle.batch_rules.specs.Batch.{ServesFirst, Batches};
 
-use batch_parts::{lists, serve};
-use batch_rules::values::Batched;
-use numbers::refusal;
-use promises::answers::{Replied, Reply};
+use batch_parts::serve;
+use batch_rules::values::{Asking, Told};
+use numbers::refusal::Refusal;
+use promises::answers::Answered;
 use rows::header::Header;
+use rows::row::Row;
 
 // The first n requests, in their order: each on what the one before it left.
 fn serve_all(
@@ -27,26 +28,13 @@ fn serve_all(
     ensures { ServesFirst h shelves.old items.old requests.now out.old n result shelves.new items.new out.new }
 {
     let mut header = h;
-    let mut k: u16 = 0;
-    while k < n {
-        let q = lists::asking_at(requests, k);
+    for k in 0..n {
+        let q = Asking::there(requests, k);
         let served = serve::serve(header, shelves, items, q);
         header = served.header;
-        let told = served.told;
-        lists::put_told(out, k, told);
-        k += 1;
+        served.told.put_there(out, k);
     }
     header
-}
-
-fn refused(h: Header, number: u16) -> Batched
-    ensures { result ≡ record { answer = number; count = 0; header = h } }
-{
-    Batched {
-        answer: number,
-        count: 0,
-        header: h,
-    }
 }
 
 // One audit for all of them; 10 where the list of answers is shorter than that of requests.
@@ -56,20 +44,19 @@ pub fn batch(
     items: &mut [u16],
     requests: &[u16],
     out: &mut [u16],
-) -> Batched
+) -> Answered<u16>
     ensures { Batches h shelves.old items.old requests.now out.old result shelves.new items.new out.new }
 {
     if !audit::passes(h, shelves, items) {
-        return refused(h, refusal::AUDIT);
+        return Answered::refused(Refusal::Audit, h);
     }
-    let n = lists::asking_count(requests);
-    if lists::answer_room(out) < n {
-        return refused(h, refusal::TOO_SHORT);
+    let n = Asking::capacity(requests);
+    if Told::capacity(out) < n {
+        return Answered::refused(Refusal::TooShort, h);
     }
     let header = serve_all(h, shelves, items, requests, out, n);
-    Batched {
-        answer: 0,
-        count: n,
+    Answered {
+        answer: Ok(n),
         header,
     }
 }
@@ -82,26 +69,20 @@ pub fn release(
     items: &mut [u16],
     row: u16,
     generation: u16,
-) -> Replied
+) -> Answered<()>
     ensures { Releases h shelves.old items.old row generation result shelves.new items.new }
 {
     if !audit::passes(h, shelves, items) {
-        return Replied {
-            answer: Reply::Refused(refusal::AUDIT),
-            header: h,
-        };
+        return Answered::refused(Refusal::Audit, h);
     }
     if !live_rows::is_live(h, items, row, generation) {
-        return Replied {
-            answer: Reply::Refused(refusal::NO_SUCH_ITEM),
-            header: h,
-        };
+        return Answered::refused(Refusal::NoSuchItem, h);
     }
     let requests: [u16; 3] = [2, row, generation];
     let mut out: [u16; 7] = [0; 7];
     let header = serve_all(h, shelves, items, &requests, &mut out, 1);
-    Replied {
-        answer: Reply::Done,
+    Answered {
+        answer: Ok(()),
         header,
     }
 }

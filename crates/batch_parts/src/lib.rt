@@ -1,5 +1,4 @@
-// The parts of a batch: the two lent lists, and one request served.
+// The parts of a batch: one request served.
 #![tactic(auto)]
 
-pub mod lists;
 pub mod serve;

@@ -1,13 +1,11 @@
 // One request served, on tables that pass: its call without the audit, and its answer in numbers.
 ghost use Rattle.std.specs.Prelude.{◌≡◌};
 ghost use Rattle.rules.specs.Prelude.{Passes};
-ghost use Rattle.batch_rules.specs.Asked.{number, grant_as_told, reply_as_told};
 ghost use Rattle.batch_rules.specs.Batch.{ServesOne};
 
 use allocate::allocate_unaudited;
 use batch_rules::values::{Asking, Served, Told};
-use numbers::refusal;
-use promises::answers::{Grant, Reply};
+use numbers::refusal::Refusal;
 use queries::tell::look_up_unaudited;
 use release::release_unaudited;
 use rows::header::Header;
@@ -18,57 +16,14 @@ const RELEASE: u16 = 2;
 
 const LOOK_UP: u16 = 3;
 
-// A number alone, with zeros beside it.
-fn number(answer: u16) -> Told
-    ensures { result ≡ number answer }
-{
-    Told {
-        answer,
-        row: 0,
-        generation: 0,
-        x0: 0,
-        y0: 0,
-        x1: 0,
-        y1: 0,
-    }
-}
-
-fn grant_told(answer: Grant) -> Told
-    ensures { result ≡ grant_as_told answer }
-{
-    match answer {
-        Grant::Granted(l) => Told {
-            answer: 0,
-            row: l.row,
-            generation: l.generation,
-            x0: l.x0,
-            y0: l.y0,
-            x1: l.x1,
-            y1: l.y1,
-        },
-        Grant::Refused(n) => number(n),
-    }
-}
-
-fn reply_told(answer: Reply) -> Told
-    ensures { result ≡ reply_as_told answer }
-{
-    match answer {
-        Reply::Done => number(0),
-        Reply::Refused(n) => number(n),
-    }
-}
-
 fn serve_allocate(h: Header, shelves: &mut [u16], items: &mut [u16], w: u16, height: u16) -> Served
     requires { Passes h shelves.old items.old }
     ensures { ServesOne h shelves.old items.old (record { kind = 1; first = w; second = height }) result shelves.new items.new }
 {
     let said = allocate_unaudited(h, shelves, items, w as i32, height as i32);
-    let header = said.header;
-    let answer = said.answer;
     Served {
-        told: grant_told(answer),
-        header,
+        told: Told::from(said.answer),
+        header: said.header,
     }
 }
 
@@ -83,11 +38,9 @@ fn serve_release(
     ensures { ServesOne h shelves.old items.old (record { kind = 2; first = row; second = generation }) result shelves.new items.new }
 {
     let said = release_unaudited(h, shelves, items, row, generation);
-    let header = said.header;
-    let answer = said.answer;
     Served {
-        told: reply_told(answer),
-        header,
+        told: Told::from(said.answer),
+        header: said.header,
     }
 }
 
@@ -97,9 +50,9 @@ fn serve_other(h: Header, shelves: &[u16], items: &[u16], q: Asking) -> Told
     ensures { ServesOne h shelves.now items.now q (record { told = result; header = h }) shelves.now items.now }
 {
     if q.kind == LOOK_UP {
-        return grant_told(look_up_unaudited(h, shelves, items, q.first, q.second));
+        return Told::from(look_up_unaudited(h, shelves, items, q.first, q.second));
     }
-    number(refusal::NOT_READABLE)
+    Told::from(Refusal::NotReadable)
 }
 
 // The request's own call. A release is told first, since that takes two instructions less a request (measured).

@@ -1,10 +1,10 @@
 -- Rows in use stay in use: no request makes the used rows of a table fewer. So what a run of requests leaves past the used rows is what stood there before the
 -- first. Assumes nothing.
-use Rattle.std.specs.Prelude.{◌+◌, ◌≤◌, ◌∷◌}
+use Rattle.std.specs.Prelude.{◌+◌, ◌≤◌, ◌∷◌, Result, Ok, Err}
 use Rattle.numbers.specs.Library.{ℕ, pos, Option, none, some, List, [], ℤ, arith, eqb}
-use Rattle.numbers.specs.Prelude.{asked}
-use Rattle.numbers.specs.declared.request.{Asked.Asked, Request.Request}
-use Rattle.numbers.specs.declared.request.Request.TheVariants.{Good, Refused}
+use Rattle.numbers.specs.Prelude.{asked, refusal_number}
+use Rattle.numbers.specs.declared.request.Asked.{Asked}
+use Rattle.numbers.specs.declared.refusal.Refusal.{Refusal}
 use Rattle.rows.specs.declared.live.Live.{Live}
 use Rattle.rules.specs.Prelude.{Item, Shelf, Pool, Rows, Atlas, Room, taken, shelf_taken, item_taken, grant, Loose, Stack, Found, freeing, free_item_row, free_shelf_row, free_shelf, merge_next, merge_into}
 use Rattle.rules.specs.Prelude.{merge_below, merge_above, holding, find_live, release_found, Outcome, refused, gives, mapped, Given, standing, Call, Allocate, Release, LookUp, Value, tells}
@@ -106,9 +106,9 @@ asked_many room a formed w height = go (asked a.limits w height) where
   granted (refused n) p = as_many a.rows
   granted (gives g) p = p
 
-  go : (r : Request) → Keeps a (mapped (λ (g : Given Live). tells g.atlas (item g.told)) (elim r [ Refused n ↦ refused n | Good q ↦ grant room a q ]))
-  go (Refused n) = as_many a.rows
-  go (Good q) = granted (grant room a q) (grant_many room a formed q)
+  go : (r : Result Asked Refusal) → Keeps a (mapped (λ (g : Given Live). tells g.atlas (item g.told)) (elim r [ Err e ↦ refused (refusal_number e) | Ok q ↦ grant room a q ]))
+  go (Err e) = as_many a.rows
+  go (Ok q) = granted (grant room a q) (grant_many room a formed q)
 
 released_many : (room : Room) (a : Atlas) (row generation : ℕ) → Keeps a (step_in room a (Release row generation))
 unfolding step_in release mapped tells

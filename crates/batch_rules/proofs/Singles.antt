@@ -1,5 +1,5 @@
 -- A batch is its single calls, one after the other: answers, header and every number of both tables. And any two outcomes of a batch are equal. Assumes nothing.
-use Rattle.std.specs.Prelude.{◌≤◌, ◌≡◌}
+use Rattle.std.specs.Prelude.{◌≤◌, ◌≡◌, Ok}
 use Rattle.numbers.specs.Library.{ℕ, refl, sym, ◌∙◌, List, arith}
 use Rattle.rows.specs.Prelude.{rows}
 use Rattle.rows.specs.declared.header.Header.{Header}
@@ -7,7 +7,9 @@ use Rattle.rules.specs.Prelude.{Passes, room_in, atlas_in}
 use Rattle.bridge.proofs.Outcome.{one_outcome}
 use Rattle.batch_rules.specs.Asked.{askings, tolds}
 use Rattle.batch_rules.specs.Batch.{atlas_after, answers_after, ServesFirst, Refuses, Serves, Batches, fails, too_short, serves, OneByOne, start, then}
-use Rattle.batch_rules.specs.declared.values.Batched.{Batched}
+use Rattle.numbers.specs.declared.refusal.Refusal.{Refusal}
+use Rattle.numbers.specs.declared.refusal.Refusal.TheVariants as refusal
+use Rattle.promises.specs.declared.answers.Answered.{Answered}
 use Rattle.batch_rules.proofs.Turns.{becomes_same, told_is, one_more}
 
 -- what the first n requests leave can be left in one way only
@@ -30,9 +32,9 @@ singles_serve l h S I out p k h₁ S₁ I₁ out₁ (then {k = j} {h₁ = h₀} 
     }
 
 -- "proved equal, answers, header and every number of both tables, to making the single calls one after the other"
-pub batch_is_singles : (l : List ℕ) (h : Header) (S I out : List ℕ) (r : Batched) (S' I' out' : List ℕ) → Passes h S I → rows askings l ≤ rows tolds out → Batches h S I l out r S' I' out'
+pub batch_is_singles : (l : List ℕ) (h : Header) (S I out : List ℕ) (r : Answered ℕ) (S' I' out' : List ℕ) → Passes h S I → rows askings l ≤ rows tolds out → Batches h S I l out r S' I' out'
     → (h₁ : Header) (S₁ I₁ out₁ : List ℕ) → OneByOne l h S I out (rows askings l) h₁ S₁ I₁ out₁
-    → (r.answer ≡ 0) × (r.header ≡ h₁) × (S' ≡ S₁) × (I' ≡ I₁) × (out' ≡ out₁)
+    → (r.answer ≡ Ok (rows askings l)) × (r.header ≡ h₁) × (S' ≡ S₁) × (I' ≡ I₁) × (out' ≡ out₁)
 batch_is_singles l h S I out r S' I' out' p room (fails n refused) h₁ S₁ I₁ out₁ singles = absurd (n p)
 batch_is_singles l h S I out r S' I' out' p room (too_short q less refused) h₁ S₁ I₁ out₁ singles = absurd (omega (arith, room, less))
 batch_is_singles l h S I out r S' I' out' p room (serves q enough all) h₁ S₁ I₁ out₁ singles =
@@ -42,13 +44,13 @@ batch_is_singles l h S I out r S' I' out' p room (serves q enough all) h₁ S₁
 
 -- ---- any two outcomes
 
-abbrev Same : Batched → List ℕ → List ℕ → List ℕ → Batched → List ℕ → List ℕ → List ℕ → Type 0
+abbrev Same : Answered ℕ → List ℕ → List ℕ → List ℕ → Answered ℕ → List ℕ → List ℕ → List ℕ → Type 0
 Same r S I out r' S' I' out' = (r ≡ r') × (S ≡ S') × (I ≡ I') × (out ≡ out')
 
-module _ (h : Header) (S I l out : List ℕ) (r : Batched) (S₁ I₁ out₁ : List ℕ) (r' : Batched) (S₂ I₂ out₂ : List ℕ) where
-  refused_once : (n : ℕ) → Refuses h S I out n r S₁ I₁ out₁ → Refuses h S I out n r' S₂ I₂ out₂ → Same r S₁ I₁ out₁ r' S₂ I₂ out₂
-  refused_once n a b = (
-    λ z. record { answer = (a.answer ∙ sym b.answer) z; count = (a.none_served ∙ sym b.none_served) z; header = (a.unchanged.header ∙ sym b.unchanged.header) z },
+module _ (h : Header) (S I l out : List ℕ) (r : Answered ℕ) (S₁ I₁ out₁ : List ℕ) (r' : Answered ℕ) (S₂ I₂ out₂ : List ℕ) where
+  refused_once : (e : Refusal) → Refuses h S I out e r S₁ I₁ out₁ → Refuses h S I out e r' S₂ I₂ out₂ → Same r S₁ I₁ out₁ r' S₂ I₂ out₂
+  refused_once e a b = (
+    λ z. record { answer = (a.answer ∙ sym b.answer) z; header = (a.unchanged.header ∙ sym b.unchanged.header) z },
     a.unchanged.shelves ∙ sym b.unchanged.shelves,
     a.unchanged.items ∙ sym b.unchanged.items,
     a.output ∙ sym b.output,
@@ -57,14 +59,14 @@ module _ (h : Header) (S I l out : List ℕ) (r : Batched) (S₁ I₁ out₁ : L
   served_once : Serves h S I l out r S₁ I₁ out₁ → Serves h S I l out r' S₂ I₂ out₂ → Same r S₁ I₁ out₁ r' S₂ I₂ out₂
   served_once a b =
       let (header, shelves, items, output) = first_once h S I l out (rows askings l) r.header r'.header S₁ I₁ out₁ S₂ I₂ out₂ a.served b.served in
-      (λ z. record { answer = (a.answer ∙ sym b.answer) z; count = (a.all_served ∙ sym b.all_served) z; header = header z }, shelves, items, output)
+      (λ z. record { answer = (a.answer ∙ sym b.answer) z; header = header z }, shelves, items, output)
 
   pub one_batch : Batches h S I l out r S₁ I₁ out₁ → Batches h S I l out r' S₂ I₂ out₂ → Same r S₁ I₁ out₁ r' S₂ I₂ out₂
-  one_batch (fails n a) (fails m b) = refused_once 3 a b
+  one_batch (fails n a) (fails m b) = refused_once refusal.Audit a b
   one_batch (fails n a) (too_short p less b) = absurd (n p)
   one_batch (fails n a) (serves p enough b) = absurd (n p)
   one_batch (too_short p less a) (fails n b) = absurd (n p)
-  one_batch (too_short p less a) (too_short q more b) = refused_once 10 a b
+  one_batch (too_short p less a) (too_short q more b) = refused_once refusal.TooShort a b
   one_batch (too_short p less a) (serves q enough b) = absurd (omega (arith, less, enough))
   one_batch (serves p enough a) (fails n b) = absurd (n p)
   one_batch (serves p enough a) (too_short q less b) = absurd (omega (arith, less, enough))

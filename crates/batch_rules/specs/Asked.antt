@@ -1,13 +1,12 @@
 -- Requests and answers as numbers: three to a request, seven to an answer; the call that a request is, and what is told of its outcome. Assumes nothing.
-use Rattle.std.specs.Prelude.{◌∷◌}
+use Rattle.std.specs.Prelude.{◌≡◌, ◌∷◌, Result, Ok, Err}
 use Rattle.numbers.specs.Library.{ℕ, refl, List, [], pos, lit<, get_or, eqb}
-use Rattle.numbers.specs.Prelude.{pick}
+use Rattle.numbers.specs.Prelude.{pick, refusal_number}
+use Rattle.numbers.specs.declared.refusal.Refusal.{Refusal}
 use Rattle.rows.specs.Prelude.{each_all, Shape}
+use Rattle.rows.specs.declared.live.Live.{Live}
 use Rattle.rules.specs.Prelude.{Outcome, refused, gives, Call, Allocate, Release, LookUp, Unreadable, Value, columns_made, done, items, count, area, space, sides, vacant}
 use Rattle.rules.specs.Step.{item}
-use Rattle.promises.specs.declared.{answers.Grant.Grant, answers.Reply.Reply}
-use Rattle.promises.specs.declared.answers.Grant.TheVariants as grant
-use Rattle.promises.specs.declared.answers.Reply.TheVariants as reply
 use Rattle.batch_rules.specs.declared.{values.Asking.Asking, values.Told.Told}
 
 unfoldable pub askings : Shape Asking
@@ -20,6 +19,10 @@ askings = record {
   back = λ q. refl;
   forth = each_all 3;
 }
+
+pub three_numbers : askings.width ≡ 3
+unfolding askings
+three_numbers = refl
 
 abbrev pub told_numbers : Told → List ℕ
 told_numbers t = t.answer ∷ t.row ∷ t.generation ∷ t.x0 ∷ t.y0 ∷ t.x1 ∷ t.y1 ∷ []
@@ -34,6 +37,10 @@ tolds = record {
   back = λ t. refl;
   forth = each_all 7;
 }
+
+pub seven_numbers : tolds.width ≡ 7
+unfolding tolds
+seven_numbers = refl
 
 -- the call that is asked for; of an unknown kind none is, which is answered with 11
 unfoldable pub call_of : Asking → Call
@@ -60,10 +67,10 @@ told_of (gives (sides w h)) = number 0
 told_of (gives (vacant b)) = number 0
 
 -- the answers of the calls, told so
-abbrev pub grant_as_told : Grant → Told
-grant_as_told (grant.Granted l) = record { answer = 0; row = l.row; generation = l.generation; x0 = l.x0; y0 = l.y0; x1 = l.x1; y1 = l.y1 }
-grant_as_told (grant.Refused n) = number n
+abbrev pub grant_as_told : Result Live Refusal → Told
+grant_as_told (Ok l) = record { answer = 0; row = l.row; generation = l.generation; x0 = l.x0; y0 = l.y0; x1 = l.x1; y1 = l.y1 }
+grant_as_told (Err e) = number (refusal_number e)
 
-abbrev pub reply_as_told : Reply → Told
-reply_as_told reply.Done = number 0
-reply_as_told (reply.Refused n) = number n
+abbrev pub reply_as_told : Result (Unit {0}) Refusal → Told
+reply_as_told (Ok t) = number 0
+reply_as_told (Err e) = number (refusal_number e)

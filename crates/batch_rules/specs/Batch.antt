@@ -1,13 +1,16 @@
 -- What a batch promises: 3 where the tables don't pass, 10 where the list of answers is too short, and else the answers, header and tables of the single calls, one
 -- after the other, from the atlas that is met in the tables. Assumes nothing.
-use Rattle.std.specs.Prelude.{◌≤◌, ◌<◌, ◌≡◌}
+use Rattle.std.specs.Prelude.{◌≤◌, ◌<◌, ◌≡◌, Ok, Err}
 use Rattle.numbers.specs.Library.{ℕ, zero, suc, List}
+use Rattle.numbers.specs.declared.refusal.Refusal.{Refusal}
+use Rattle.numbers.specs.declared.refusal.Refusal.TheVariants as refusal
 use Rattle.rows.specs.Prelude.{rows, get, put}
 use Rattle.rows.specs.declared.header.Header.{Header}
 use Rattle.rules.specs.Prelude.{Atlas, Room, room_in, atlas_in, Passes, standing, told_of, step_in, Unchanged, Becomes, Promise}
+use Rattle.promises.specs.declared.answers.Answered.{Answered}
 use Rattle.batch_rules.specs.Asked.{askings, tolds, call_of}
 use Rattle.batch_rules.specs.Asked as asked
-use Rattle.batch_rules.specs.declared.{values.Asking.Asking, values.Told.Told, values.Served.Served, values.Batched.Batched}
+use Rattle.batch_rules.specs.declared.{values.Asking.Asking, values.Told.Told, values.Served.Served}
 
 -- ---- from request to request: `l` is the list of requests, and `a` the atlas before the first
 
@@ -41,21 +44,19 @@ abbrev pub ServesOne : Header → List ℕ → List ℕ → Asking → Served �
 ServesOne h S I q r S' I' = Promise (call_of q) (λ o. r.told ≡ asked.told_of o) h S I r.header S' I'
 
 -- all is as it was, and this is the answer
-pub record Refuses (h : Header) (S I out : List ℕ) (n : ℕ) (r : Batched) (S' I' out' : List ℕ) : Type 0 where
-  pub answer : r.answer ≡ n
-  pub none_served : r.count ≡ 0
+pub record Refuses (h : Header) (S I out : List ℕ) (e : Refusal) (r : Answered ℕ) (S' I' out' : List ℕ) : Type 0 where
+  pub answer : r.answer ≡ Err e
   pub unchanged : Unchanged h S I r.header S' I'
   pub output : out' ≡ out
 
--- each request is answered in its place, and the atlas is what they leave
-pub record Serves (h : Header) (S I l out : List ℕ) (r : Batched) (S' I' out' : List ℕ) : Type 0 where
-  pub answer : r.answer ≡ 0
-  pub all_served : r.count ≡ rows askings l
+-- how many requests there are is told; each is answered in its place, and the atlas is what they leave
+pub record Serves (h : Header) (S I l out : List ℕ) (r : Answered ℕ) (S' I' out' : List ℕ) : Type 0 where
+  pub answer : r.answer ≡ Ok (rows askings l)
   pub served : ServesFirst h S I l out (rows askings l) r.header S' I' out'
 
-pub data Batches (h : Header) (S I l out : List ℕ) (r : Batched) (S' I' out' : List ℕ) : Type 0 where
-  fails : (¬ Passes h S I) → Refuses h S I out 3 r S' I' out' → Batches h S I l out r S' I' out'
-  too_short : Passes h S I → rows tolds out < rows askings l → Refuses h S I out 10 r S' I' out' → Batches h S I l out r S' I' out'
+pub data Batches (h : Header) (S I l out : List ℕ) (r : Answered ℕ) (S' I' out' : List ℕ) : Type 0 where
+  fails : (¬ Passes h S I) → Refuses h S I out refusal.Audit r S' I' out' → Batches h S I l out r S' I' out'
+  too_short : Passes h S I → rows tolds out < rows askings l → Refuses h S I out refusal.TooShort r S' I' out' → Batches h S I l out r S' I' out'
   serves : Passes h S I → rows askings l ≤ rows tolds out → Serves h S I l out r S' I' out' → Batches h S I l out r S' I' out'
 
 -- ---- the single calls, one after the other

@@ -1,4 +1,5 @@
-// What a batch is asked and tells, in numbers, and what it promises. No code: the call is the crate batch.
+// What a batch is asked and tells, as rows of two lent lists of numbers, and what it promises. The call is the crate batch.
 #![tactic(auto)]
 
+pub mod told;
 pub mod values;

@@ -2,4 +2,3 @@
 #![tactic(auto)]
 
 pub mod list;
-pub mod records;

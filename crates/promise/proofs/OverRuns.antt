@@ -1,10 +1,10 @@
 -- Demand 3, from one call to any run of them. Assumes nothing.
-use Rattle.std.specs.Prelude.{◌+◌, ◌*◌, ◌<◌, ◌≡◌, ◌∷◌, ◌++◌}
+use Rattle.std.specs.Prelude.{◌+◌, ◌*◌, ◌<◌, ◌≡◌, ◌∷◌, ◌++◌, Ok, Err}
 use Rattle.numbers.specs.Library.{ℕ, refl, sym, ap, ◌∙◌, List, [], arith, eq-eqb, ne_eqb}
 use Rattle.numbers.specs.Prelude.{space_left}
 use Rattle.numbers.specs.declared.limits.Limits.{Limits}
 use Rattle.rows.specs.declared.live.Live.{Live}
-use Rattle.shelf_edits.specs.State.{State}
+use Rattle.rows.specs.State.{State}
 use Rattle.chains.specs.Prelude.{Each}
 use Rattle.chains.proofs.Prelude.{each_map}
 use Rattle.rules.specs.Prelude.{free_space, size_x, size_y, WellFormed}
@@ -14,8 +14,6 @@ use Rattle.laws.proofs.Shape.Flat.{Across}
 use Rattle.laws.proofs.Shape.Rectangles.{one_more-area}
 use Rattle.laws.proofs.Shape.Kept.{lives_inside, list_rises, list_each, list_apart, list_areas, occupied_lives}
 use Rattle.bridge.proofs.Calls as calls
-use Rattle.promises.specs.declared.answers.Grant.TheVariants as grant-answer
-use Rattle.promises.specs.declared.answers.Reply.TheVariants as reply
 use Rattle.promise.specs.Run.{Did, allocated, released, looked_up, listed, cleared, Run, start, then}
 use Rattle.promise.specs.Facts.{Pass, atlas, room, live, LiesIn, SameId, NoneMoved, Changes, area_of, Count, counted_after, count_of}
 use Rattle.promise.specs.Demand3.{Demand3}
@@ -66,11 +64,11 @@ module _ (st st' : State) (pass : Pass st) (pass' : Pass st') where
   kept_ids same = rw same (one_of_an_id st pass)
 
   none_moved : (did : Did st st') → Changes did → NoneMoved st st'
-  none_moved (allocated w height (grant-answer.Granted v) p) one = shorter (λ u. Each (OneOfAnId u) (live st')) v (live st) (live st') one (one_of_an_id st' pass')
-  none_moved (allocated w height (grant-answer.Refused n) p) same = kept_ids same
-  none_moved (released row generation reply.Done p) taken =
+  none_moved (allocated w height (Ok v) p) one = shorter (λ u. Each (OneOfAnId u) (live st')) v (live st) (live st') one (one_of_an_id st' pass')
+  none_moved (allocated w height (Err e) p) same = kept_ids same
+  none_moved (released row generation (Ok done) p) taken =
       each_map (λ u. Each (OneOfAnId u) (live st)) (λ u. Each (OneOfAnId u) (live st')) (λ u. shorter (OneOfAnId u) taken.taken (live st') (live st) taken.one_less) (live st) (one_of_an_id st pass)
-  none_moved (released row generation (reply.Refused n) p) same = kept_ids same
+  none_moved (released row generation (Err e) p) same = kept_ids same
   none_moved (looked_up row generation answer p eq) same = kept_ids same
   none_moved (listed out answer out' p eq) same = kept_ids same
   none_moved (cleared answer p) none = rw none.1 (each_any (live st)) where
@@ -91,19 +89,19 @@ module _ (st st' : State) (pass : Pass st) (pass' : Pass st') where
   Counted s c = s.header.occupied + c.released ≡ c.total + c.granted
 
   count_on : (c : Count) (did : Did st st') → Changes did → Counted st c → Counted st' (counted_after c did)
-  count_on c (allocated w height (grant-answer.Granted v) p) one counted =
+  count_on c (allocated w height (Ok v) p) one counted =
       omega (arith, one_more-area v (live st) (live st') one, occupied_is_live st pass, occupied_is_live st' pass')
-  count_on c (allocated w height (grant-answer.Refused n) p) same counted = omega (arith, ap areas same, occupied_is_live st pass, occupied_is_live st' pass')
-  count_on c (released row generation reply.Done p) taken counted =
+  count_on c (allocated w height (Err e) p) same counted = omega (arith, ap areas same, occupied_is_live st pass, occupied_is_live st' pass')
+  count_on c (released row generation (Ok done) p) taken counted =
       let one : OneMore taken.taken (live st') (live st) = taken.one_less in
       let named : area_of row generation (live st) ≡ area taken.taken =
       rw one.more (named_area row generation taken.taken one.before one.after taken.its_row taken.its_generation (rw one.more at (rises st pass))) in
       omega (arith, one_more-area taken.taken (live st') (live st) one, occupied_is_live st pass, occupied_is_live st' pass')
-  count_on c (released row generation (reply.Refused n) p) same counted = omega (arith, ap areas same, occupied_is_live st pass, occupied_is_live st' pass')
+  count_on c (released row generation (Err e) p) same counted = omega (arith, ap areas same, occupied_is_live st pass, occupied_is_live st' pass')
   count_on c (looked_up row generation answer p eq) same counted = omega (arith, ap areas same, occupied_is_live st pass, occupied_is_live st' pass')
   count_on c (listed out answer out' p eq) same counted = omega (arith, ap areas same, occupied_is_live st pass, occupied_is_live st' pass')
-  count_on c (cleared reply.Done p) none counted = omega (arith, ap areas none.1, occupied_is_live st' pass')
-  count_on c (cleared (reply.Refused n) p) none counted = absurd (let z : ◌≡◌ {A = ℕ} 0 1 = cc in omega arith)
+  count_on c (cleared (Ok done) p) none counted = omega (arith, ap areas none.1, occupied_is_live st' pass')
+  count_on c (cleared (Err e) p) none counted = cc
 
 -- ---- a run
 

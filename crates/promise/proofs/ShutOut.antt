@@ -1,11 +1,11 @@
 -- The wrong programs that document 01 names under "What a promise has to say here", each shut out by the fields of demand 3. Assumes nothing.
-use Rattle.std.specs.Prelude.{◌+◌, ◌-◌, ◌≤◌, ◌<◌, ◌≡◌, ◌≢◌, ◌∷◌, ◌++◌}
+use Rattle.std.specs.Prelude.{◌+◌, ◌-◌, ◌≤◌, ◌<◌, ◌≡◌, ◌≢◌, ◌∷◌, ◌++◌, Ok, Err}
 use Rattle.numbers.specs.Library.{ℕ, mul-le-mul, refl, ap, subst, List, [], ℤ, pos, arith}
 use Rattle.numbers.specs.Prelude.{columns, asked}
 use Rattle.numbers.specs.declared.{limits.Limits.Limits, request.Asked.Asked}
-use Rattle.numbers.specs.declared.request.Request.TheVariants.{Good}
+use Rattle.numbers.specs.declared.refusal.Refusal.TheVariants as refusal
 use Rattle.rows.specs.declared.live.Live.{Live}
-use Rattle.shelf_edits.specs.State.{State}
+use Rattle.rows.specs.State.{State}
 use Rattle.chains.specs.Prelude.{Each}
 use Rattle.rules.specs.Prelude.{Atlas, atlas_in, fresh_shelf, fresh_shelves, fresh}
 use Rattle.laws.specs.Places.{NoPlace}
@@ -13,8 +13,6 @@ use Rattle.laws.specs.Lives.{OneMore, HasPixel, NoPixelShared, Pairs, area}
 use Rattle.laws.proofs.Shape.Rectangles.{one_more-area}
 use Rattle.laws.proofs.Shape.ByRow.{each_there}
 use Rattle.promises.specs.Prelude.{Allocates, Releases}
-use Rattle.promises.specs.declared.answers.Grant.TheVariants as grant
-use Rattle.promises.specs.declared.answers.Reply.TheVariants as reply
 use Rattle.promise.specs.Run.{Did, allocated, released, Run, start, then}
 use Rattle.promise.specs.Facts.{atlas, live, LiesIn, TakesOne}
 use Rattle.promise.specs.Demand3.{Demand3}
@@ -38,27 +36,27 @@ module _ (st : State) (demand : Demand3 st) (now next : State) (run : Run st now
   -- ---- "one rectangle for every request", and "a run that places the first request and then only repeats an answer"
 
   -- what is granted shares no pixel with anything live
-  pub grant_apart : (w height : ℤ) (v : Live) (p : Allocates now.header now.shelves now.items w height (record { answer = grant.Granted v; header = next.header }) next.shelves next.items)
+  pub grant_apart : (w height : ℤ) (v : Live) (p : Allocates now.header now.shelves now.items w height (record { answer = Ok v; header = next.header }) next.shelves next.items)
       → Each (λ u. NoPixelShared u v) (live now)
   grant_apart w height v p =
-      let did : Did now next = allocated w height (grant.Granted v) p in
+      let did : Did now next = allocated w height (Ok v) p in
       let one : OneMore v (live now) (live next) = demand.one_granted_or_released now next run did in
       rw one.less (shares_none v one.before one.after (rw one.more at (demand.no_two_share_a_pixel next (then run did))))
 
   -- ---- "a release that changes nothing", and "a made-up occupied total"
 
-  pub grant_grows : (w height : ℤ) (v : Live) (p : Allocates now.header now.shelves now.items w height (record { answer = grant.Granted v; header = next.header }) next.shelves next.items)
+  pub grant_grows : (w height : ℤ) (v : Live) (p : Allocates now.header now.shelves now.items w height (record { answer = Ok v; header = next.header }) next.shelves next.items)
       → next.header.occupied ≡ now.header.occupied + area v
   grant_grows w height v p =
-      let did : Did now next = allocated w height (grant.Granted v) p in
+      let did : Did now next = allocated w height (Ok v) p in
       let one : OneMore v (live now) (live next) = demand.one_granted_or_released now next run did in
       omega (arith, one_more-area v (live now) (live next) one, demand.occupied_is_live now run, demand.occupied_is_live next (then run did))
 
   -- occupied falls
-  pub release_falls : (row generation : ℕ) (p : Releases now.header now.shelves now.items row generation (record { answer = reply.Done; header = next.header }) next.shelves next.items)
+  pub release_falls : (row generation : ℕ) (p : Releases now.header now.shelves now.items row generation (record { answer = Ok tt; header = next.header }) next.shelves next.items)
       → next.header.occupied < now.header.occupied
   release_falls row generation p =
-      let did : Did now next = released row generation reply.Done p in
+      let did : Did now next = released row generation (Ok tt) p in
       let taken : TakesOne row generation (live now) (live next) = demand.one_granted_or_released now next run did in
       let one : OneMore taken.taken (live next) (live now) = taken.one_less in
       let lies : LiesIn now taken.taken = (each_there (LiesIn now) one.before taken.taken one.after (rw one.more at (demand.inside_the_atlas now run))).0 in
@@ -66,11 +64,11 @@ module _ (st : State) (demand : Demand3 st) (now next : State) (run : Run st now
 
 -- two grants in a row are two rectangles that share no pixel
 pub no_grant_twice : (st : State) (demand : Demand3 st) (now next last : State) (run : Run st now) (w height w' height' : ℤ) (v u : Live)
-    (p : Allocates now.header now.shelves now.items w height (record { answer = grant.Granted v; header = next.header }) next.shelves next.items)
-    (p' : Allocates next.header next.shelves next.items w' height' (record { answer = grant.Granted u; header = last.header }) last.shelves last.items)
+    (p : Allocates now.header now.shelves now.items w height (record { answer = Ok v; header = next.header }) next.shelves next.items)
+    (p' : Allocates next.header next.shelves next.items w' height' (record { answer = Ok u; header = last.header }) last.shelves last.items)
     → NoPixelShared v u × (u ≢ v)
 no_grant_twice st demand now next last run w height w' height' v u p p' =
-    let did : Did now next = allocated w height (grant.Granted v) p in
+    let did : Did now next = allocated w height (Ok v) p in
     let one : OneMore v (live now) (live next) = demand.one_granted_or_released now next run did in
     let lies : LiesIn next v = (each_there (LiesIn next) one.before v one.after (rw one.more at (demand.inside_the_atlas next (then run did)))).0 in
     let apart : NoPixelShared v u = (each_there (λ t. NoPixelShared t u) one.before v one.after (rw one.more at (grant_apart st demand next last (then run did) w' height' u p'))).0 in
@@ -85,16 +83,16 @@ small = record { width = 100; height = 100; align_width = 1; align_height = 1; v
 abbrev ten : Asked
 ten = record { width = 10; depth = 16; aligned = 10 }
 
-asks_ten : asked small (pos 10) (pos 10) ≡ Good ten
+asks_ten : asked small (pos 10) (pos 10) ≡ Ok ten
 unfolding asked
 asks_ten = refl
 
 -- a fresh one has a place for it, so that 6 is no answer
 pub not_always_6 : (st : State) (demand : Demand3 st) (next : State) → atlas st ≡ fresh small
-    → Allocates st.header st.shelves st.items (pos 10) (pos 10) (record { answer = grant.Refused 6; header = next.header }) next.shelves next.items → ⊥
+    → Allocates st.header st.shelves st.items (pos 10) (pos 10) (record { answer = Err refusal.NoPlace; header = next.header }) next.shelves next.items → ⊥
 unfolding atlas_in fresh fresh_shelves fresh_shelf columns
 not_always_6 st demand next is p =
     let limits : st.header.limits ≡ small = ap (λ (a : Atlas). a.limits) is in
     let none : NoPlace ten (fresh small).shelves =
-    subst (λ (a : Atlas). NoPlace ten a.shelves) is ((demand.no_place_exactly st next start (allocated (pos 10) (pos 10) (grant.Refused 6) p) ten (rw limits asks_ten)).0 refl) in
+    subst (λ (a : Atlas). NoPlace ten a.shelves) is ((demand.no_place_exactly st next start (allocated (pos 10) (pos 10) (Err refusal.NoPlace) p) ten (rw limits asks_ten)).0 refl) in
     omega (arith, (none.0 (omega arith)).0 refl)

@@ -12,7 +12,7 @@
 use Rattle.std.specs.Prelude.{◌+◌, ◌*◌, ◌<◌, ◌≡◌, ◌≢◌}
 use Rattle.numbers.specs.Library.{ℕ}
 use Rattle.rows.specs.declared.live.Live.{Live}
-use Rattle.shelf_edits.specs.State.{State}
+use Rattle.rows.specs.State.{State}
 use Rattle.chains.specs.Prelude.{Each}
 use Rattle.rules.specs.Prelude.{refused, free_space}
 use Rattle.laws.specs.Lives.{NoPixelShared, Pairs, areas}

@@ -1,22 +1,23 @@
 -- Runs of the public calls on a header and two tables to which nobody else writes: each call keeps its promise, and leaves what the next one finds.
 -- Assumes nothing.
-use Rattle.std.specs.Prelude.{◌≡◌}
+use Rattle.std.specs.Prelude.{◌≡◌, Result}
 use Rattle.numbers.specs.Library.{ℕ, List, ℤ}
-use Rattle.shelf_edits.specs.State.{State}
+use Rattle.numbers.specs.declared.refusal.Refusal.{Refusal}
+use Rattle.rows.specs.declared.live.Live.{Live}
+use Rattle.rows.specs.State.{State}
 use Rattle.rules.specs.Prelude.{Outcome, Value}
 use Rattle.promises.specs.Prelude.{grants, replies, listings, Allocates, Releases, Clears, LooksUp, Lists}
-use Rattle.promises.specs.declared.{answers.Grant.Grant, answers.Reply.Reply, answers.Listing.Listing}
 
 -- One call, whatever it is asked and whatever it answers. Look-up and list are lent the tables to read, and leave them as they are; a list is written
 -- to `out`, which is `out'` after the call. A call more is a constructor more.
 pub data Did (st st' : State) : Type 0 where
-  allocated : (w height : ℤ) (answer : Grant) → Allocates st.header st.shelves st.items w height (record { answer = answer; header = st'.header }) st'.shelves st'.items
+  allocated : (w height : ℤ) (answer : Result Live Refusal) → Allocates st.header st.shelves st.items w height (record { answer = answer; header = st'.header }) st'.shelves st'.items
       → Did st st'
-  released : (row generation : ℕ) (answer : Reply) → Releases st.header st.shelves st.items row generation (record { answer = answer; header = st'.header }) st'.shelves st'.items
+  released : (row generation : ℕ) (answer : Result (Unit {0}) Refusal) → Releases st.header st.shelves st.items row generation (record { answer = answer; header = st'.header }) st'.shelves st'.items
       → Did st st'
-  looked_up : (row generation : ℕ) (answer : Grant) → LooksUp st.header st.shelves st.items row generation answer → st' ≡ st → Did st st'
-  listed : (out : List ℕ) (answer : Listing) (out' : List ℕ) → Lists st.header st.shelves st.items out answer out' → st' ≡ st → Did st st'
-  cleared : (answer : Reply) → Clears st.header st.shelves st.items (record { answer = answer; header = st'.header }) st'.shelves st'.items → Did st st'
+  looked_up : (row generation : ℕ) (answer : Result Live Refusal) → LooksUp st.header st.shelves st.items row generation answer → st' ≡ st → Did st st'
+  listed : (out : List ℕ) (answer : Result ℕ Refusal) (out' : List ℕ) → Lists st.header st.shelves st.items out answer out' → st' ≡ st → Did st st'
+  cleared : (answer : Result (Unit {0}) Refusal) → Clears st.header st.shelves st.items (record { answer = answer; header = st'.header }) st'.shelves st'.items → Did st st'
 
 -- any number of calls, one after the other
 pub data Run (st : State) : State → Type 0 where

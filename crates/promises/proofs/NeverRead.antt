@@ -1,7 +1,7 @@
 -- "Numbers after the used rows are never read", for every call: two states of the same lengths that agree on the header and the used rows are answered
 -- alike, and what is left agrees on the header and the used rows again. What a call asks holds for both or for neither, the step that it takes is
 -- one and the same, and its outcome tells the used rows that it leaves. One proof for all calls. Assumes nothing.
-use Rattle.std.specs.Prelude.{◌≡◌}
+use Rattle.std.specs.Prelude.{◌≡◌, Result}
 use Rattle.numbers.specs.Library.{ℕ, arith, refl, sym, ap, ◌∙◌, Bool, true, false, List, ℤ, length}
 use Rattle.numbers.specs.Prelude.{pick}
 use Rattle.rows.specs.Prelude.{rows, zero_header}
@@ -14,8 +14,9 @@ use Rattle.laws.proofs.Stored.Reading.{same_verdict, same_atlas}
 use Rattle.bridge.proofs.Outcome.{same_outcome}
 use Rattle.promises.specs.Prelude.{creations, grants, replies, areas, extents, vacancies, records, Promises, Creates, Allocates, Releases, Clears}
 use Rattle.promises.specs.Prelude.{LooksUp, TellsOccupied, TellsFreeSpace, TellsSize, TellsEmpty, Lists}
-use Rattle.promises.specs.declared.{answers.Grant.Grant, answers.Area.Area, answers.Extent.Extent, answers.Vacancy.Vacancy, answers.Listing.Listing}
-use Rattle.promises.specs.declared.{answers.Created.Created, answers.Allocated.Allocated, answers.Replied.Replied}
+use Rattle.numbers.specs.declared.refusal.Refusal.{Refusal}
+use Rattle.rows.specs.declared.live.Live.{Live}
+use Rattle.promises.specs.declared.{answers.Answered.Answered, answers.Sides.Sides}
 use Rattle.promises.proofs.Outcomes.{listed_once}
 use Rattle.promises.proofs.Steps.{same_room, as_long}
 
@@ -131,7 +132,7 @@ module _ (h : Header) (S T I J : List ℕ) (read : SameRead h S T I J) where
 
 module _ (S T I J S₁ I₁ T₂ J₂ : List ℕ) where
   -- create reads no row: tables of the same lengths suffice
-  pub same_create : length S ≡ length T → length I ≡ length J → (w h alignWidth alignHeight vertical columns : ℤ) (r₁ r₂ : Created)
+  pub same_create : length S ≡ length T → length I ≡ length J → (w h alignWidth alignHeight vertical columns : ℤ) (r₁ r₂ : Answered ℕ)
       → Creates S I w h alignWidth alignHeight vertical columns r₁ S₁ I₁ → Creates T J w h alignWidth alignHeight vertical columns r₂ T₂ J₂
       → (r₁ ≡ r₂) × SameRead r₁.header S₁ T₂ I₁ J₂
   unfolding Creates
@@ -141,25 +142,25 @@ module _ (S T I J S₁ I₁ T₂ J₂ : List ℕ) where
       (λ z. record { answer = answer z; header = header z }, alike)
 
   module _ (h : Header) (read : SameRead h S T I J) where
-    pub same_allocate : (w height : ℤ) (r₁ r₂ : Allocated) → Allocates h S I w height r₁ S₁ I₁ → Allocates h T J w height r₂ T₂ J₂
+    pub same_allocate : (w height : ℤ) (r₁ r₂ : Answered Live) → Allocates h S I w height r₁ S₁ I₁ → Allocates h T J w height r₂ T₂ J₂
         → (r₁ ≡ r₂) × SameRead r₁.header S₁ T₂ I₁ J₂
     unfolding Allocates
     same_allocate w height r₁ r₂ a b =
         let (answer, (header, alike)) = never_read_answer h S T I J read (Allocate w height) r₁.header S₁ I₁ r₂.header T₂ J₂ grants r₁.answer r₂.answer a b in
         (λ z. record { answer = answer z; header = header z }, alike)
 
-    same_replied : (call : Call) (r₁ r₂ : Replied) → Promises replies call h S I r₁.answer r₁.header S₁ I₁ → Promises replies call h T J r₂.answer r₂.header T₂ J₂
+    same_replied : (call : Call) (r₁ r₂ : Answered (Unit {0})) → Promises replies call h S I r₁.answer r₁.header S₁ I₁ → Promises replies call h T J r₂.answer r₂.header T₂ J₂
         → (r₁ ≡ r₂) × SameRead r₁.header S₁ T₂ I₁ J₂
     same_replied call r₁ r₂ a b =
         let (answer, (header, alike)) = never_read_answer h S T I J read call r₁.header S₁ I₁ r₂.header T₂ J₂ replies r₁.answer r₂.answer a b in
         (λ z. record { answer = answer z; header = header z }, alike)
 
-    pub same_release : (row generation : ℕ) (r₁ r₂ : Replied) → Releases h S I row generation r₁ S₁ I₁ → Releases h T J row generation r₂ T₂ J₂
+    pub same_release : (row generation : ℕ) (r₁ r₂ : Answered (Unit {0})) → Releases h S I row generation r₁ S₁ I₁ → Releases h T J row generation r₂ T₂ J₂
         → (r₁ ≡ r₂) × SameRead r₁.header S₁ T₂ I₁ J₂
     unfolding Releases
     same_release row generation = same_replied (Release row generation)
 
-    pub same_clear : (r₁ r₂ : Replied) → Clears h S I r₁ S₁ I₁ → Clears h T J r₂ T₂ J₂ → (r₁ ≡ r₂) × SameRead r₁.header S₁ T₂ I₁ J₂
+    pub same_clear : (r₁ r₂ : Answered (Unit {0})) → Clears h S I r₁ S₁ I₁ → Clears h T J r₂ T₂ J₂ → (r₁ ≡ r₂) × SameRead r₁.header S₁ T₂ I₁ J₂
     unfolding Clears
     same_clear = same_replied Clear
 
@@ -169,27 +170,27 @@ module _ (h : Header) (S T I J : List ℕ) (read : SameRead h S T I J) where
   same_told : {A : Type 0} (t : Answering A) (call : Call) (r₁ r₂ : A) → Promises t call h S I r₁ h S I → Promises t call h T J r₂ h T J → r₁ ≡ r₂
   same_told t call r₁ r₂ a b = (never_read_answer h S T I J read call h S I h T J t r₁ r₂ a b).0
 
-  pub same_look_up : (row generation : ℕ) (r₁ r₂ : Grant) → LooksUp h S I row generation r₁ → LooksUp h T J row generation r₂ → r₁ ≡ r₂
+  pub same_look_up : (row generation : ℕ) (r₁ r₂ : Result Live Refusal) → LooksUp h S I row generation r₁ → LooksUp h T J row generation r₂ → r₁ ≡ r₂
   unfolding LooksUp
   same_look_up row generation = same_told grants (LookUp row generation)
 
-  pub same_occupied : (r₁ r₂ : Area) → TellsOccupied h S I r₁ → TellsOccupied h T J r₂ → r₁ ≡ r₂
+  pub same_occupied : (r₁ r₂ : Result ℕ Refusal) → TellsOccupied h S I r₁ → TellsOccupied h T J r₂ → r₁ ≡ r₂
   unfolding TellsOccupied
   same_occupied = same_told areas Occupied
 
-  pub same_free_space : (r₁ r₂ : Area) → TellsFreeSpace h S I r₁ → TellsFreeSpace h T J r₂ → r₁ ≡ r₂
+  pub same_free_space : (r₁ r₂ : Result ℕ Refusal) → TellsFreeSpace h S I r₁ → TellsFreeSpace h T J r₂ → r₁ ≡ r₂
   unfolding TellsFreeSpace
   same_free_space = same_told areas FreeSpace
 
-  pub same_size : (r₁ r₂ : Extent) → TellsSize h S I r₁ → TellsSize h T J r₂ → r₁ ≡ r₂
+  pub same_size : (r₁ r₂ : Result Sides Refusal) → TellsSize h S I r₁ → TellsSize h T J r₂ → r₁ ≡ r₂
   unfolding TellsSize
   same_size = same_told extents Size
 
-  pub same_is_empty : (r₁ r₂ : Vacancy) → TellsEmpty h S I r₁ → TellsEmpty h T J r₂ → r₁ ≡ r₂
+  pub same_is_empty : (r₁ r₂ : Result Bool Refusal) → TellsEmpty h S I r₁ → TellsEmpty h T J r₂ → r₁ ≡ r₂
   unfolding TellsEmpty
   same_is_empty = same_told vacancies IsEmpty
 
   -- and so is the lent list after it
-  pub same_list : (out out₁ out₂ : List ℕ) (r₁ r₂ : Listing) → Lists h S I out r₁ out₁ → Lists h T J out r₂ out₂ → (r₁ ≡ r₂) × (out₁ ≡ out₂)
+  pub same_list : (out out₁ out₂ : List ℕ) (r₁ r₂ : Result ℕ Refusal) → Lists h S I out r₁ out₁ → Lists h T J out r₂ out₂ → (r₁ ≡ r₂) × (out₁ ≡ out₂)
   unfolding Lists
   same_list out out₁ out₂ r₁ r₂ a b = (never_read h S T I J read (ListIn (rows records out)) h S I h T J (λ o. listed_once) a b).0

@@ -1,7 +1,7 @@
 -- Any two outcomes that a promise allows are equal: the answer, the header, every number of both tables and of a lent list. One proof for all calls.
 -- Assumes nothing.
-use Rattle.std.specs.Prelude.{◌≡◌}
-use Rattle.numbers.specs.Library.{ℕ, sym, ◌∙◌, List, ℤ}
+use Rattle.std.specs.Prelude.{◌≡◌, Result}
+use Rattle.numbers.specs.Library.{ℕ, sym, ◌∙◌, List, ℤ, Bool}
 use Rattle.rows.specs.Prelude.{rows, zero_header}
 use Rattle.rows.specs.declared.header.Header.{Header}
 use Rattle.rules.specs.Prelude.{Outcome, refused, gives, Given, Call, Create, Allocate, Release, LookUp, ListIn, Clear, Occupied, FreeSpace, Size, IsEmpty}
@@ -9,8 +9,9 @@ use Rattle.rules.specs.Prelude.{Value, Leaves, Answering, Judged, fails, passes,
 use Rattle.bridge.proofs.Outcome.{one_outcome}
 use Rattle.promises.specs.Prelude.{creations, grants, replies, areas, extents, vacancies, listings, records, Promises, Creates, Allocates, Releases}
 use Rattle.promises.specs.Prelude.{Clears, LooksUp, TellsOccupied, TellsFreeSpace, TellsSize, TellsEmpty, ListedSo, Lists}
-use Rattle.promises.specs.declared.{answers.Grant.Grant, answers.Area.Area, answers.Extent.Extent, answers.Vacancy.Vacancy, answers.Listing.Listing}
-use Rattle.promises.specs.declared.{answers.Created.Created, answers.Allocated.Allocated, answers.Replied.Replied}
+use Rattle.numbers.specs.declared.refusal.Refusal.{Refusal}
+use Rattle.rows.specs.declared.live.Live.{Live}
+use Rattle.promises.specs.declared.{answers.Answered.Answered, answers.Sides.Sides}
 
 -- the first check fails for both or passes for both
 pub once : {Right O E : Type 0} {Had Had' : O → Type 0} {refusal answer : O} → ((o : O) → Had o → Had' o → E)
@@ -49,7 +50,7 @@ module _ (S I S₁ I₁ S₂ I₂ : List ℕ) where
   abbrev pub Same : {R : Type 0} → R → R → Type 0
   Same r₁ r₂ = (r₁ ≡ r₂) × (S₁ ≡ S₂) × (I₁ ≡ I₂)
 
-  pub one_create : (w h alignWidth alignHeight vertical columns : ℤ) (r₁ r₂ : Created)
+  pub one_create : (w h alignWidth alignHeight vertical columns : ℤ) (r₁ r₂ : Answered ℕ)
       → Creates S I w h alignWidth alignHeight vertical columns r₁ S₁ I₁ → Creates S I w h alignWidth alignHeight vertical columns r₂ S₂ I₂ → Same r₁ r₂
   unfolding Creates
   one_create w h alignWidth alignHeight vertical columns r₁ r₂ a b =
@@ -57,27 +58,27 @@ module _ (S I S₁ I₁ S₂ I₂ : List ℕ) where
       (λ z. record { answer = answer z; header = header z }, s, i)
 
   module _ (h : Header) where
-    pub one_allocate : (w height : ℤ) (r₁ r₂ : Allocated) → Allocates h S I w height r₁ S₁ I₁ → Allocates h S I w height r₂ S₂ I₂ → Same r₁ r₂
+    pub one_allocate : (w height : ℤ) (r₁ r₂ : Answered Live) → Allocates h S I w height r₁ S₁ I₁ → Allocates h S I w height r₂ S₂ I₂ → Same r₁ r₂
     unfolding Allocates
     one_allocate w height r₁ r₂ a b =
         let (answer, (header, s, i)) = one_answer (Allocate w height) h S I r₁.header S₁ I₁ r₂.header S₂ I₂ grants r₁.answer r₂.answer a b in
         (λ z. record { answer = answer z; header = header z }, s, i)
 
-    replied_once : (call : Call) (r₁ r₂ : Replied) → Promises replies call h S I r₁.answer r₁.header S₁ I₁ → Promises replies call h S I r₂.answer r₂.header S₂ I₂ → Same r₁ r₂
+    replied_once : (call : Call) (r₁ r₂ : Answered (Unit {0})) → Promises replies call h S I r₁.answer r₁.header S₁ I₁ → Promises replies call h S I r₂.answer r₂.header S₂ I₂ → Same r₁ r₂
     replied_once call r₁ r₂ a b =
         let (answer, (header, s, i)) = one_answer call h S I r₁.header S₁ I₁ r₂.header S₂ I₂ replies r₁.answer r₂.answer a b in
         (λ z. record { answer = answer z; header = header z }, s, i)
 
-    pub one_release : (row generation : ℕ) (r₁ r₂ : Replied) → Releases h S I row generation r₁ S₁ I₁ → Releases h S I row generation r₂ S₂ I₂ → Same r₁ r₂
+    pub one_release : (row generation : ℕ) (r₁ r₂ : Answered (Unit {0})) → Releases h S I row generation r₁ S₁ I₁ → Releases h S I row generation r₂ S₂ I₂ → Same r₁ r₂
     unfolding Releases
     one_release row generation = replied_once (Release row generation)
 
-    pub one_clear : (r₁ r₂ : Replied) → Clears h S I r₁ S₁ I₁ → Clears h S I r₂ S₂ I₂ → Same r₁ r₂
+    pub one_clear : (r₁ r₂ : Answered (Unit {0})) → Clears h S I r₁ S₁ I₁ → Clears h S I r₂ S₂ I₂ → Same r₁ r₂
     unfolding Clears
     one_clear = replied_once Clear
 
 -- a list can be told in one way only
-pub listed_once : {call : Call} {out out₁ out₂ : List ℕ} {r₁ r₂ : Listing} {o : Outcome Value} → ListedSo call out r₁ out₁ o → ListedSo call out r₂ out₂ o
+pub listed_once : {call : Call} {out out₁ out₂ : List ℕ} {r₁ r₂ : Result ℕ Refusal} {o : Outcome Value} → ListedSo call out r₁ out₁ o → ListedSo call out r₂ out₂ o
     → (r₁ ≡ r₂) × (out₁ ≡ out₂)
 listed_once {r₁ = r₁} {r₂ = r₂} a b = (listings.apart r₁ r₂ (a.answers.says ∙ sym b.answers.says), a.listed ∙ sym b.listed)
 
@@ -85,26 +86,26 @@ module _ (h : Header) (S I : List ℕ) where
   told_once : {A : Type 0} (t : Answering A) (call : Call) (r₁ r₂ : A) → Promises t call h S I r₁ h S I → Promises t call h S I r₂ h S I → r₁ ≡ r₂
   told_once t call r₁ r₂ a b = (one_answer call h S I h S I h S I t r₁ r₂ a b).0
 
-  pub one_look_up : (row generation : ℕ) (r₁ r₂ : Grant) → LooksUp h S I row generation r₁ → LooksUp h S I row generation r₂ → r₁ ≡ r₂
+  pub one_look_up : (row generation : ℕ) (r₁ r₂ : Result Live Refusal) → LooksUp h S I row generation r₁ → LooksUp h S I row generation r₂ → r₁ ≡ r₂
   unfolding LooksUp
   one_look_up row generation = told_once grants (LookUp row generation)
 
-  pub one_occupied : (r₁ r₂ : Area) → TellsOccupied h S I r₁ → TellsOccupied h S I r₂ → r₁ ≡ r₂
+  pub one_occupied : (r₁ r₂ : Result ℕ Refusal) → TellsOccupied h S I r₁ → TellsOccupied h S I r₂ → r₁ ≡ r₂
   unfolding TellsOccupied
   one_occupied = told_once areas Occupied
 
-  pub one_free_space : (r₁ r₂ : Area) → TellsFreeSpace h S I r₁ → TellsFreeSpace h S I r₂ → r₁ ≡ r₂
+  pub one_free_space : (r₁ r₂ : Result ℕ Refusal) → TellsFreeSpace h S I r₁ → TellsFreeSpace h S I r₂ → r₁ ≡ r₂
   unfolding TellsFreeSpace
   one_free_space = told_once areas FreeSpace
 
-  pub one_size : (r₁ r₂ : Extent) → TellsSize h S I r₁ → TellsSize h S I r₂ → r₁ ≡ r₂
+  pub one_size : (r₁ r₂ : Result Sides Refusal) → TellsSize h S I r₁ → TellsSize h S I r₂ → r₁ ≡ r₂
   unfolding TellsSize
   one_size = told_once extents Size
 
-  pub one_is_empty : (r₁ r₂ : Vacancy) → TellsEmpty h S I r₁ → TellsEmpty h S I r₂ → r₁ ≡ r₂
+  pub one_is_empty : (r₁ r₂ : Result Bool Refusal) → TellsEmpty h S I r₁ → TellsEmpty h S I r₂ → r₁ ≡ r₂
   unfolding TellsEmpty
   one_is_empty = told_once vacancies IsEmpty
 
-  pub one_list : (out out₁ out₂ : List ℕ) (r₁ r₂ : Listing) → Lists h S I out r₁ out₁ → Lists h S I out r₂ out₂ → (r₁ ≡ r₂) × (out₁ ≡ out₂)
+  pub one_list : (out out₁ out₂ : List ℕ) (r₁ r₂ : Result ℕ Refusal) → Lists h S I out r₁ out₁ → Lists h S I out r₂ out₂ → (r₁ ≡ r₂) × (out₁ ≡ out₂)
   unfolding Lists
   one_list out out₁ out₂ r₁ r₂ a b = (one_promise (ListIn (rows records out)) h S I h S I h S I (λ o. listed_once) a b).0

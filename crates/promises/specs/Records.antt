@@ -5,18 +5,7 @@ use Rattle.rows.specs.Prelude.{each_all, Shape, put}
 use Rattle.rows.specs.declared.live.Live.{Live}
 use Rattle.rules.specs.Prelude.{Outcome, refused, gives, mapped, Value, columns_made, done, items, count, area, space, sides, vacant, live_numbers}
 use Rattle.rules.specs.Step.{item}
-
-unfoldable pub records : Shape Live
-unfolding live_numbers
-records = record {
-  width = 6;
-  some = lit< tt;
-  numbers = live_numbers;
-  value = λ r. record { row = get_or r 0 0; generation = get_or r 1 0; x0 = get_or r 2 0; y0 = get_or r 3 0; x1 = get_or r 4 0; y1 = get_or r 5 0 };
-  long = λ l. refl;
-  back = λ l. refl;
-  forth = each_all 6;
-}
+unfoldable pub use Rattle.rows.specs.Live.{records}
 
 -- the items written to the records from record k on. "Records past the last stay as they were."
 unfoldable pub written : ℕ → List Live → List ℕ → List ℕ

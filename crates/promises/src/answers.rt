@@ -1,70 +1,39 @@
-// What the public calls answer. A refusal has its number in document 01; a call that may change the header returns it beside its answer.
+// What the public calls answer: what was asked for, or a refusal. Create answers the columns, allocate and look-up an item, release and clear nothing,
+// the totals an area, size the sides, is_empty whether it is, and list how many items are listed.
+ghost use Rattle.std.specs.Prelude.{◌≡◌};
+ghost use Rattle.rows.specs.Prelude.{zero_header};
+
+use numbers::refusal::Refusal;
+use rows::header;
 use rows::header::Header;
-use rows::live::Live;
 
-// To create: the columns.
+// Width and height, as they were given.
 #[derive(Clone, Copy)]
-pub enum Creation {
-    Made(u16),
-    Refused(u16),
+pub struct Sides {
+    pub width: u16,
+    pub height: u16,
 }
 
-// To allocate and look-up.
+// The answer of a call that may change the header, and the header after it.
 #[derive(Clone, Copy)]
-pub enum Grant {
-    Granted(Live),
-    Refused(u16),
-}
-
-// To release and clear.
-#[derive(Clone, Copy)]
-pub enum Reply {
-    Done,
-    Refused(u16),
-}
-
-// To occupied and free space.
-#[derive(Clone, Copy)]
-pub enum Area {
-    Of(u32),
-    Refused(u16),
-}
-
-// To size: width and height, as they were given.
-#[derive(Clone, Copy)]
-pub enum Extent {
-    Sides(u16, u16),
-    Refused(u16),
-}
-
-// To is_empty.
-#[derive(Clone, Copy)]
-pub enum Vacancy {
-    Vacant(bool),
-    Refused(u16),
-}
-
-// To list: how many items are listed.
-#[derive(Clone, Copy)]
-pub enum Listing {
-    Listed(u16),
-    Refused(u16),
-}
-
-#[derive(Clone, Copy)]
-pub struct Created {
-    pub answer: Creation,
+pub struct Answered<T> {
+    pub answer: Result<T, Refusal>,
     pub header: Header,
 }
 
-#[derive(Clone, Copy)]
-pub struct Allocated {
-    pub answer: Grant,
-    pub header: Header,
-}
-
-#[derive(Clone, Copy)]
-pub struct Replied {
-    pub answer: Reply,
-    pub header: Header,
+impl<T> Answered<T> {
+    pub fn refused(refusal: Refusal, header: Header) -> Self
+        ensures { result ≡ record { answer = Err refusal; header = header } }
+    {
+        Answered {
+            answer: Err(refusal),
+            header,
+        }
+    }
+    // "A refused create or load returns an all-zero header."
+    pub fn no_atlas(refusal: Refusal) -> Self
+        ensures { result ≡ record { answer = Err refusal; header = zero_header } }
+    {
+        Answered::refused(refusal, header::no_header())
+    }
 }

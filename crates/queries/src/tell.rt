@@ -4,9 +4,10 @@ ghost use Rattle.numbers.specs.Prelude.{space_left};
 ghost use Rattle.rules.specs.Prelude.{Passes};
 ghost use Rattle.promises.specs.Prelude.{LooksUp, TellsOccupied, TellsFreeSpace, TellsSize, TellsEmpty};
 
-use numbers::refusal;
-use promises::answers::{Area, Extent, Grant, Vacancy};
+use numbers::refusal::Refusal;
+use promises::answers::Sides;
 use rows::header::Header;
+use rows::live::Live;
 
 // What is told of the item that an id names, or 8 where it names none. No audit is made: this is for callers that have made one, and they owe that
 // the tables pass.
@@ -16,72 +17,80 @@ pub fn look_up_unaudited(
     items: &[u16],
     row: u16,
     generation: u16,
-) -> Grant
+) -> Result<Live, Refusal>
     requires { Passes h shelves.now items.now }
     ensures { LooksUp h shelves.now items.now row generation result }
 {
     if !live_rows::is_live(h, items, row, generation) {
-        return Grant::Refused(refusal::NO_SUCH_ITEM);
+        return Err(Refusal::NoSuchItem);
     }
-    Grant::Granted(live_rows::live_at(h, shelves, items, row))
+    Ok(live_rows::live_at(h, shelves, items, row))
 }
 
 // The same for any header and tables, after the audit.
-pub fn look_up(h: Header, shelves: &[u16], items: &[u16], row: u16, generation: u16) -> Grant
+pub fn look_up(
+    h: Header,
+    shelves: &[u16],
+    items: &[u16],
+    row: u16,
+    generation: u16,
+) -> Result<Live, Refusal>
     ensures { LooksUp h shelves.now items.now row generation result }
 {
     if !audit::passes(h, shelves, items) {
-        return Grant::Refused(refusal::AUDIT);
+        return Err(Refusal::Audit);
     }
     look_up_unaudited(h, shelves, items, row, generation)
 }
 
-pub fn occupied(h: Header, shelves: &[u16], items: &[u16]) -> Area
+pub fn occupied(h: Header, shelves: &[u16], items: &[u16]) -> Result<u32, Refusal>
     ensures { TellsOccupied h shelves.now items.now result }
 {
     if !audit::passes(h, shelves, items) {
-        return Area::Refused(refusal::AUDIT);
+        return Err(Refusal::Audit);
     }
-    Area::Of(h.occupied)
+    Ok(h.occupied)
 }
 
-pub fn free_space(h: Header, shelves: &[u16], items: &[u16]) -> Area
+pub fn free_space(h: Header, shelves: &[u16], items: &[u16]) -> Result<u32, Refusal>
     ensures { TellsFreeSpace h shelves.now items.now result }
 {
     if !audit::passes(h, shelves, items) {
-        return Area::Refused(refusal::AUDIT);
+        return Err(Refusal::Audit);
     }
-    Area::Of(space_left(h))
+    Ok(space_left(h))
 }
 
 // What is left of the atlas. No audit is made: the caller has made one.
 pub fn space_left(h: Header) -> u32
     ensures { result ≡ space_left h.limits h.occupied }
 {
-    let whole = wrap::area(h.limits.width, h.limits.height);
-    if whole < h.occupied {
-        return 0;
-    }
-    whole - h.occupied
+    wrap::area(h.limits.width, h.limits.height).saturating_sub(h.occupied)
 }
 
-pub fn size(h: Header, shelves: &[u16], items: &[u16]) -> Extent
+pub fn size(h: Header, shelves: &[u16], items: &[u16]) -> Result<Sides, Refusal>
     ensures { TellsSize h shelves.now items.now result }
 {
     if !audit::passes(h, shelves, items) {
-        return Extent::Refused(refusal::AUDIT);
+        return Err(Refusal::Audit);
     }
     if h.limits.vertical == 1 {
-        return Extent::Sides(h.limits.height, h.limits.width);
+        return Ok(Sides {
+            width: h.limits.height,
+            height: h.limits.width,
+        });
     }
-    Extent::Sides(h.limits.width, h.limits.height)
+    Ok(Sides {
+        width: h.limits.width,
+        height: h.limits.height,
+    })
 }
 
-pub fn is_empty(h: Header, shelves: &[u16], items: &[u16]) -> Vacancy
+pub fn is_empty(h: Header, shelves: &[u16], items: &[u16]) -> Result<bool, Refusal>
     ensures { TellsEmpty h shelves.now items.now result }
 {
     if !audit::passes(h, shelves, items) {
-        return Vacancy::Refused(refusal::AUDIT);
+        return Err(Refusal::Audit);
     }
-    Vacancy::Vacant(live_rows::is_vacant(h))
+    Ok(live_rows::is_vacant(h))
 }

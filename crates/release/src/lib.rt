@@ -2,23 +2,31 @@
 #![tactic(auto)]
 
 ghost use Rattle.std.specs.Prelude.{◌≡◌};
+ghost use Rattle.rows.specs.State.{state};
+ghost use Rattle.merge.specs.Merge.{release_at};
+ghost use Rattle.merge.specs.Releasable.{Releasable};
 ghost use Rattle.rules.specs.Prelude.{Passes};
 ghost use Rattle.promises.specs.Prelude.{Releases};
-ghost use Rattle.promises.specs.declared.answers.Reply.TheVariants as reply;
 
 use merge::release_at;
 use numbers::index::ItemIndex;
-use numbers::refusal;
-use promises::answers::{Replied, Reply};
+use numbers::refusal::Refusal;
+use promises::answers::Answered;
 use rows::header::Header;
+use rows::tables::Tables;
 
-fn refused(h: Header, number: u16) -> Replied
-    ensures { result ≡ record { answer = reply.Refused number; header = h } }
+// The item in row `at` is released in the tables that were lent.
+fn release_row(h: Header, shelves: &mut [u16], items: &mut [u16], at: ItemIndex) -> Header
+    requires { Releasable h shelves.old items.old at }
+    ensures { state result shelves.new items.new ≡ release_at (state h shelves.old items.old) at }
 {
-    Replied {
-        answer: Reply::Refused(number),
+    let mut t = Tables {
         header: h,
-    }
+        shelves,
+        items,
+    };
+    release_at(&mut t, at);
+    t.header
 }
 
 // The call without the audit, for callers that have made one: its caller owes that the tables pass.
@@ -28,17 +36,17 @@ pub fn release_unaudited(
     items: &mut [u16],
     row: u16,
     generation: u16,
-) -> Replied
+) -> Answered<()>
     requires { Passes h shelves.old items.old }
     ensures { Releases h shelves.old items.old row generation result shelves.new items.new }
 {
     if !live_rows::is_live(h, items, row, generation) {
-        return refused(h, refusal::NO_SUCH_ITEM);
+        return Answered::refused(Refusal::NoSuchItem, h);
     }
     let at = ItemIndex(row);
-    let header = release_at(h, shelves, items, at);
-    Replied {
-        answer: Reply::Done,
+    let header = release_row(h, shelves, items, at);
+    Answered {
+        answer: Ok(()),
         header,
     }
 }
@@ -49,11 +57,11 @@ pub fn release(
     items: &mut [u16],
     row: u16,
     generation: u16,
-) -> Replied
+) -> Answered<()>
     ensures { Releases h shelves.old items.old row generation result shelves.new items.new }
 {
     if !audit::passes(h, shelves, items) {
-        return refused(h, refusal::AUDIT);
+        return Answered::refused(Refusal::Audit, h);
     }
     release_unaudited(h, shelves, items, row, generation)
 }

@@ -4,8 +4,9 @@
 
 ghost use Rattle.promises.specs.Prelude.{Allocates, Releases, Clears};
 
-use promises::answers::{Grant, Reply};
+use numbers::refusal::Refusal;
 use rows::header::Header;
+use rows::live::Live;
 
 pub fn allocate(
     h: &mut Header,
@@ -13,11 +14,10 @@ pub fn allocate(
     items: &mut [u16],
     w: i32,
     height: i32,
-) -> Grant
+) -> Result<Live, Refusal>
     ensures { Allocates h.old shelves.old items.old w height (record { answer = result; header = h.new }) shelves.new items.new }
 {
-    let v = *h;
-    let granted = allocate::allocate(v, shelves, items, w, height);
+    let granted = allocate::allocate(*h, shelves, items, w, height);
     *h = granted.header;
     granted.answer
 }
@@ -28,20 +28,18 @@ pub fn release(
     items: &mut [u16],
     row: u16,
     generation: u16,
-) -> Reply
+) -> Result<(), Refusal>
     ensures { Releases h.old shelves.old items.old row generation (record { answer = result; header = h.new }) shelves.new items.new }
 {
-    let v = *h;
-    let released = release::release(v, shelves, items, row, generation);
+    let released = release::release(*h, shelves, items, row, generation);
     *h = released.header;
     released.answer
 }
 
-pub fn clear(h: &mut Header, shelves: &mut [u16], items: &mut [u16]) -> Reply
+pub fn clear(h: &mut Header, shelves: &mut [u16], items: &mut [u16]) -> Result<(), Refusal>
     ensures { Clears h.old shelves.old items.old (record { answer = result; header = h.new }) shelves.new items.new }
 {
-    let v = *h;
-    let cleared = create::clear(v, shelves, items);
+    let cleared = create::clear(*h, shelves, items);
     *h = cleared.header;
     cleared.answer
 }

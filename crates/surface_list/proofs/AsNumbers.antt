@@ -1,15 +1,15 @@
 -- The call over a list of numbers (`listing`) and this one say the same: where the numbers are the records', the answers are equal, and so are the
 -- numbers that are left. A list of numbers counts as 65535 records at most, so it is said of lists of no more. Assumes nothing.
-use Rattle.std.specs.Prelude.{◌+◌, ◌-◌, ◌*◌, ◌≤◌, ◌<◌, ◌≡◌, ◌∷◌, ◌++◌}
+use Rattle.std.specs.Prelude.{◌+◌, ◌-◌, ◌*◌, ◌≤◌, ◌<◌, ◌≡◌, ◌∷◌, ◌++◌, Result}
 use Rattle.numbers.specs.Library.{ℕ, zero, suc, refl, sym, ◌∙◌, List, [], append_assoc, append-nil, arith, length, length-append}
 use Rattle.numbers.specs.Library.{dec_lt}
 use lib.Seq.{take_at, drop_at}
 use Rattle.numbers.specs.Prelude.{most_rows}
 use Rattle.rows.specs.Prelude.{rows, rows_fit, fit_rows, put, put_part, put-short}
+use Rattle.numbers.specs.declared.refusal.Refusal.{Refusal}
 use Rattle.rows.specs.declared.{header.Header.Header, live.Live.Live}
 use Rattle.rules.specs.Prelude.{Outcome, refused, gives, ListIn, Value, live_numbers}
 use Rattle.promises.specs.Prelude.{records, written, items_told, filled, Lists}
-use Rattle.promises.specs.declared.answers.Listing.{Listing}
 use Rattle.promises.proofs.Cases.{said_so}
 use Rattle.promises.proofs.Outcomes.{one_list}
 use Rattle.surface_list.specs.Lives.{laid, items_of, ListsLives}
@@ -65,12 +65,12 @@ unfolding laid items_of filled
 as_filled out few (refused n) = refl
 as_filled out few (gives v) = sym (all_written (items_told v) out 0 [] refl (omega arith))
 
-module _ (h : Header) (S I : List ℕ) (out out' : List Live) (few : length out ≤ most_rows) (r : Listing) (lives : ListsLives h S I out r out') where
+module _ (h : Header) (S I : List ℕ) (out out' : List Live) (few : length out ≤ most_rows) (r : Result ℕ Refusal) (lives : ListsLives h S I out r out') where
   pub as_numbers : Lists h S I (numbers_in out) r (numbers_in out')
   unfolding Lists ListsLives
   as_numbers =
       rw (rows_in out few)
       (said_so (ListIn (length out)) h S I h S I (λ o s. record { answers = s.answers; listed = rw s.listed (as_filled out few o) }) lives)
 
-  pub agrees : (r₂ : Listing) (out₂ : List ℕ) → Lists h S I (numbers_in out) r₂ out₂ → (r ≡ r₂) × (numbers_in out' ≡ out₂)
+  pub agrees : (r₂ : Result ℕ Refusal) (out₂ : List ℕ) → Lists h S I (numbers_in out) r₂ out₂ → (r ≡ r₂) × (numbers_in out' ≡ out₂)
   agrees r₂ out₂ = one_list h S I (numbers_in out) (numbers_in out') out₂ r r₂ as_numbers

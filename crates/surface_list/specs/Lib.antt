@@ -1,2 +1,1 @@
 pub mod Lives
-pub mod Steps

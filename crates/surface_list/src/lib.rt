@@ -1,97 +1,45 @@
 // List, with the live items written to a lent list of records: the call of `listing` has a list of their numbers.
 #![tactic(auto)]
 
-ghost use Rattle.surface_list.specs.Lives.{ListsLives};
-ghost use Rattle.surface_list.specs.Steps.{ListChecked, NextLive};
+ghost use Rattle.std.specs.Prelude.{◌≡◌, ◌≤◌, length};
+ghost use Rattle.rules.specs.Prelude.{Passes};
+ghost use Rattle.live_rows.specs.Live.{LiveRowsThere, live_count, rows_listed};
+ghost use Rattle.surface_list.specs.Lives.{laid, ListsLives};
 
 use numbers::index::ItemIndex;
-use numbers::refusal;
-use promises::answers::Listing;
+use numbers::refusal::Refusal;
 use rows::header::Header;
+use rows::item::ItemRow;
 use rows::live::Live;
-use rows::{item, shelf};
+use rows::row::Row;
 
-// What list answers, and how many records it writes: none where it is refused.
-#[derive(Clone, Copy)]
-struct Checked {
-    answer: Listing,
-    count: u16,
-}
-
-// A live item, and the row after it.
-#[derive(Clone, Copy)]
-struct Found {
-    live: Live,
-    after: u16,
-}
-
-// Both checks are made, and the live items counted, before anything is written.
-fn list_check(h: Header, shelves: &[u16], items: &[u16], room: usize) -> Checked
-    ensures { ListChecked h shelves.now items.now room result }
+// The live ones of the used rows go to the records from the first on; there is room for them. A row is read once.
+fn lay_rows(h: Header, shelves: &[u16], items: &[u16], out: &mut [Live])
+    requires { LiveRowsThere h shelves.now items.now × (live_count items.now h.used_items ≤ length out.old) }
+    ensures { out.new ≡ laid (rows_listed h shelves.now items.now h.used_items) out.old }
 {
-    if !audit::passes(h, shelves, items) {
-        return Checked {
-            answer: Listing::Refused(refusal::AUDIT),
-            count: 0,
-        };
-    }
-    let count = live_rows::live_count(items, h.used_items);
-    if room < count as usize {
-        return Checked {
-            answer: Listing::Refused(refusal::TOO_SHORT),
-            count: 0,
-        };
-    }
-    Checked {
-        answer: Listing::Listed(count),
-        count,
-    }
-}
-
-// The first live item of the used rows from this one on. It asks nothing of the tables, and gives zeros where there is none.
-fn next_live(h: Header, shelves: &[u16], items: &[u16], from: u16) -> Found
-    ensures { NextLive h shelves.now items.now from result }
-{
-    let mut row = from;
-    while row < h.used_items {
-        let at = ItemIndex(row);
-        let i = item::get_item(items, at);
-        row += 1;
+    let mut count: usize = 0;
+    for row in 0..h.used_items {
+        let i = ItemRow::there(items, ItemIndex(row));
         if i.allocated == 1 {
-            let s = shelf::get_shelf(shelves, i.shelf);
-            return Found {
-                live: live_rows::live_of_rows(h, s, i, at.0),
-                after: row,
-            };
+            out[count] = live_rows::live_of_item(h, shelves, i, row);
+            count += 1;
         }
     }
-    Found {
-        live: Live {
-            row: 0,
-            generation: 0,
-            x0: 0,
-            y0: 0,
-            x1: 0,
-            y1: 0,
-        },
-        after: row,
-    }
 }
 
-// The live items by rising row, each in a record of its own, and how many they are. A turn goes on from the row after the last item, so that each row is
-// looked at once.
-pub fn list(h: Header, shelves: &[u16], items: &[u16], out: &mut [Live]) -> Listing
+// The live items by rising row, each in a record of its own, and how many they are. Both checks are made, and the items counted, before anything is
+// written.
+pub fn list(h: Header, shelves: &[u16], items: &[u16], out: &mut [Live]) -> Result<u16, Refusal>
     ensures { ListsLives h shelves.now items.now out.old result out.new }
 {
-    let c = list_check(h, shelves, items, out.len());
-    let n = c.count as usize;
-    let mut at: u16 = 0;
-    let mut k: usize = 0;
-    while k < n {
-        let f = next_live(h, shelves, items, at);
-        out[k] = f.live;
-        at = f.after;
-        k += 1;
+    if !audit::passes(h, shelves, items) {
+        return Err(Refusal::Audit);
     }
-    c.answer
+    let count = live_rows::live_count(items, h.used_items);
+    if out.len() < count as usize {
+        return Err(Refusal::TooShort);
+    }
+    lay_rows(h, shelves, items, out);
+    Ok(count)
 }

@@ -8,14 +8,14 @@ use Rattle.allocate.proofs.allocate_unaudited.Goals as goal
 pub grant_asked-requires : goal.grant_asked-requires
 grant_asked-requires c = c.requires
 
-pub returns-in-Good : goal.returns-in-Good
-returns-in-Good c =
+pub returns-in-Ok : goal.returns-in-Ok
+returns-in-Ok c =
     allocates_asked _ _ _ c.args.w c.args.height c.requires _
-    (sym (as_given_2 (asked c.args.h.limits) c.ranges.w c.ranges.height c.check_request-request.ensures) ∙ c.in-Good.is)
+    (sym (as_given_2 (asked c.args.h.limits) c.ranges.w c.ranges.height c.check_request-request.ensures) ∙ c.in-Ok.is)
     _ _ _ c.grant_asked.ensures
 
-pub returns-in-Refused : goal.returns-in-Refused
-returns-in-Refused c =
+pub returns-in-Err : goal.returns-in-Err
+returns-in-Err c =
     allocates_refused _ _ _ c.args.w c.args.height c.requires _
-    (sym (as_given_2 (asked c.args.h.limits) c.ranges.w c.ranges.height c.check_request-request.ensures) ∙ c.in-Refused.is)
+    (sym (as_given_2 (asked c.args.h.limits) c.ranges.w c.ranges.height c.check_request-request.ensures) ∙ c.in-Err.is)
     _ c.refused.ensures

@@ -1,17 +1,16 @@
--- `grant_asked`: 6 where the item that the search answers is no row, and else what the place gives.
+-- `grant_asked`: 6 where the search answers no place, and else what the place gives.
 use Rattle.bridge.proofs.Search.Walkable.{walkable}
 use Rattle.allocate.proofs.Grants.{asked_none, asked_some, asked_there}
 use Rattle.allocate.proofs.grant_asked.Goals as goal
 
-pub search-p-requires : goal.search-p-requires
-search-p-requires c = walkable c.requires
+pub search-requires : goal.search-requires
+search-requires c = walkable c.requires
 
-pub returns-then-is_none : goal.returns-then-is_none
-returns-then-is_none c = asked_none _ _ _ _ c.requires _ c.search-p.ensures c.is_none.ensures c.if-is_none.true _ c.refused.ensures
+pub returns-in_default : goal.returns-in_default
+returns-in_default c = asked_none _ _ _ _ c.requires _ c.search.ensures c.in_default.is _ c.refused.ensures
 
 pub grant_there-requires : goal.grant_there-requires
-grant_there-requires c = asked_there _ _ _ _ c.requires _ c.search-p.ensures c.is_none.ensures c.if-is_none.false
+grant_there-requires c = asked_there _ _ _ _ c.requires _ c.search.ensures _ c.in-Some.is
 
 pub returns : goal.returns
-returns c =
-    asked_some _ _ _ _ c.requires _ c.search-p.ensures c.is_none.ensures c.if-is_none.false _ _ _ c.grant_there.ensures
+returns c = asked_some _ _ _ _ c.requires _ c.search.ensures _ c.in-Some.is _ _ _ c.grant_there.ensures

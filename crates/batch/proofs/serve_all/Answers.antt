@@ -1,31 +1,23 @@
 use Rattle.std.specs.Prelude.{◌≡◌}
 use Rattle.numbers.specs.Library.{arith, ap, ◌∙◌, length}
-use Rattle.rows.specs.Prelude.{rows_few}
-use Rattle.batch_rules.specs.Asked.{askings}
 use Rattle.batch_rules.proofs.Loop.{before_first, has_place, next_request, answers_long}
 use Rattle.batch.proofs.serve_all.Goals as goal
 
 pub loop-k-init : goal.loop-k-init
 loop-k-init c = before_first _ _ _ _ _ _ c.requires.0 c.requires.1 c.requires.2
 
-pub asking_at-q-requires : goal.asking_at-q-requires
-asking_at-q-requires c = omega (arith, c.loop-k.invariant.asked)
+pub there-q-requires : goal.there-q-requires
+there-q-requires c = omega (arith, c.loop-k.invariant.asked)
 
 pub serve-served-requires : goal.serve-served-requires
 serve-served-requires c = c.loop-k.invariant.served.becomes.passes
 
-pub put_told-requires : goal.put_told-requires
-put_told-requires c = has_place _ _ _ _ _ _ _ c.loop-k.invariant c.loop-k-test.true
-
-pub overflow_add-k : goal.overflow_add-k
-overflow_add-k c = omega (arith, c.loop-k-test.true, c.loop-k.invariant.asked, rows_few askings c.args.requests.now)
-
-pub loop-k-smaller : goal.loop-k-smaller
-loop-k-smaller c = omega (arith, c.loop-k-test.true)
+pub put_there-requires : goal.put_there-requires
+put_there-requires c = has_place _ _ _ _ _ _ _ c.loop-k.invariant c.loop-k-test.true
 
 pub loop-k-preserved : goal.loop-k-preserved
 loop-k-preserved c =
-    next_request _ _ _ _ _ _ _ c.loop-k.invariant c.loop-k-test.true _ c.asking_at-q.ensures c.serve-served.result _ _ _ c.serve-served.ensures c.put_told.ensures
+    next_request _ _ _ _ _ _ _ c.loop-k.invariant c.loop-k-test.true _ c.there-q.ensures c.serve-served.result _ _ _ c.serve-served.ensures c.put_there.ensures
 
 pub shape_of-shelves : goal.shape_of-shelves
 shape_of-shelves c = c.loop-k.invariant.served.becomes.shelves_past.as_long

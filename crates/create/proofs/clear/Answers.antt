@@ -5,7 +5,7 @@ use Rattle.numbers.specs.Library.{ap, not}
 use Rattle.create.proofs.clear.Goals as goal
 
 pub returns-then-not-passes_for_clear : goal.returns-then-not-passes_for_clear
-returns-then-not-passes_for_clear c = clear_3 _ _ _ c.passes_for_clear.ensures (ap not c.if-not-passes_for_clear.true)
+returns-then-not-passes_for_clear c = rw c.refused.ensures (clear_3 _ _ _ c.passes_for_clear.ensures (ap not c.if-not-passes_for_clear.true))
 
 pub returns : goal.returns
 returns c =
