@@ -7,6 +7,9 @@ use Rattle.image_form.specs.Blocks.{heading}
 use Rattle.image_form.specs.Form1.{form1}
 use Rattle.image_form.proofs.Words.{length-words, words_take, words_drop}
 use Rattle.image_form.proofs.Blocks.{whole_sum, block_right, right_front, right_unused, right_check}
+use Rattle.std.proofs.lemmas.Bool.Decides.{Decides-eqb}
+use Rattle.std.proofs.lemmas.Slice.Eq.{slice_eq-Decides}
+use lib.Pointwise.{pointwise}
 use Rattle.blocks.specs.Right.{BlockRight, unused_sum, CheckRight}
 
 -- a test of equality
@@ -58,22 +61,13 @@ module _ (bytes : List ℕ) (long : length bytes ≡ 512) where
     abbrev Heading : Type 0
     Heading = take 3 words ≡ heading form1 number kind rows
 
-    at : Heading → (i : ℕ) → get_or (get_or words 0 0 ∷ get_or words 1 0 ∷ get_or words 2 0 ∷ []) i 0 ≡ get_or (heading form1 number kind rows) i 0
-    at h i = ap (λ (l : List ℕ). get_or l i 0) (sym (three words many) ∙ h)
-
-    pub wrong_number : (w : ℕ) → w ≡ get_or words 0 0 → (w ≡ number → ⊥) → Decides false Heading
-    wrong_number w is n = refuted (λ h. n (is ∙ at h 0))
-
-    pub wrong_kind : (w : ℕ) → w ≡ get_or words 1 0 → (w ≡ 1 + 256 * kind → ⊥) → Decides false Heading
-    unfolding form1
-    wrong_kind w is n = refuted (λ h. n (is ∙ at h 1))
-
-    pub last_of_heading : (a b w : ℕ) → a ≡ get_or words 0 0 → a ≡ number → b ≡ get_or words 1 0 → b ≡ 1 + 256 * kind → w ≡ get_or words 2 0 → Decides (eqb w rows) Heading
-    unfolding form1
-    last_of_heading a b w is₀ e₀ is₁ e₁ is₂ =
-        equal w rows
-        (λ e. three words many ∙ rw (← is₀, e₀, ← is₁, e₁, ← is₂, e))
-        (λ h. is₂ ∙ at h 2)
+    -- read one by one and compared with a heading's words
+    pub heading_decides : {a b c : ℕ} → a ≡ get_or words 0 0 → b ≡ get_or words 1 0 → c ≡ get_or words 2 0
+        → {due : List ℕ} → due ≡ heading form1 number kind rows → {test : Bool} → test ≡ pointwise eqb (a ∷ b ∷ c ∷ []) due → Decides test Heading
+    heading_decides {a} {b} {c} is₀ is₁ is₂ {due} e {test} compared =
+        let met : (a ∷ b ∷ c ∷ []) ≡ take 3 words = rw (is₀, is₁, is₂) (sym (three words many)) in
+        let d = slice_eq-Decides Decides-eqb (a ∷ b ∷ c ∷ []) due test compared in
+        record { sound = λ t. sym met ∙ d.0 t ∙ e; complete = λ h. d.1 (met ∙ h ∙ sym e) }
 
     module _ (count : ℕ) (few : count ≤ 252) where
       abbrev Right : Type 0

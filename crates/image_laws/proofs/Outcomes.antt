@@ -1,17 +1,16 @@
 -- Any two outcomes that save and load allow are equal: the answer, the header, every number of both tables and every byte of the output. Assumes nothing.
-use Rattle.std.specs.Prelude.{◌<◌, ◌≡◌}
+use Rattle.std.specs.Prelude.{◌<◌, ◌≡◌, Result}
 use Rattle.numbers.specs.Library.{ℕ, sym, ap, ◌∙◌, List, get_or, arith}
 use Rattle.rows.specs.Prelude.{items, shelves}
 use Rattle.rows.specs.declared.{header.Header.Header, shelf.ShelfRow.ShelfRow, item.ItemRow.ItemRow}
 use Rattle.rules.specs.Prelude.{Passes, Outcome, refused, gives, Judged}
-use Rattle.promises.specs.Answering.{reply_apart}
-use Rattle.promises.specs.declared.answers.Replied.{Replied}
+use Rattle.numbers.specs.declared.refusal.Refusal.{Refusal}
+use Rattle.promises.specs.Answering.{apart, replies}
+use Rattle.promises.specs.declared.answers.Answered.{Answered}
 use Rattle.promises.proofs.Outcomes.{once}
 use Rattle.image_form.specs.Tables.{stored_from}
 use Rattle.image_form.proofs.Tables.{same_numbers}
 use Rattle.image_promises.specs.Promises.{saving_says, SavedSo, Saves, Holds, LoadedSo, Loads, wrong, few, copied}
-use Rattle.image_promises.specs.declared.answers.Saving.{Saving}
-use Rattle.image_promises.specs.declared.answers.Saving.TheVariants as saving
 use Rattle.image_read.specs.Right.{shelf_numbers, item_numbers}
 use Rattle.image_read.proofs.Standing.{same_sizes, Stands, holds_stands}
 
@@ -21,14 +20,11 @@ Bytes image = (i : ℕ) → get_or image i 0 < 256
 
 -- ---- save
 
-saving_apart : (r s : Saving) → saving_says r ≡ saving_says s → r ≡ s
+saving_apart : (r s : Result ℕ Refusal) → saving_says r ≡ saving_says s → r ≡ s
 unfolding saving_says
-saving_apart (saving.Saved n) (saving.Saved m) e = cc
-saving_apart (saving.Saved n) (saving.Refused k) e = let z : ◌≡◌ {A = ℕ} 0 1 = cc in absurd (omega arith)
-saving_apart (saving.Refused k) (saving.Saved n) e = let z : ◌≡◌ {A = ℕ} 0 1 = cc in absurd (omega arith)
-saving_apart (saving.Refused k) (saving.Refused l) e = cc
+saving_apart = apart (λ (n : ℕ). n) (λ n m e. e)
 
-pub one_save : (h : Header) (S I out : List ℕ) (r₁ r₂ : Saving) (out₁ out₂ : List ℕ) → Saves h S I out r₁ out₁ → Saves h S I out r₂ out₂ → (r₁ ≡ r₂) × (out₁ ≡ out₂)
+pub one_save : (h : Header) (S I out : List ℕ) (r₁ r₂ : Result ℕ Refusal) (out₁ out₂ : List ℕ) → Saves h S I out r₁ out₁ → Saves h S I out r₂ out₂ → (r₁ ≡ r₂) × (out₁ ≡ out₂)
 unfolding Saves
 one_save h S I out r₁ r₂ out₁ out₂ = once same where
   same : (o : Outcome (List ℕ)) → SavedSo out r₁ out₁ o → SavedSo out r₂ out₂ o → (r₁ ≡ r₂) × (out₁ ≡ out₂)
@@ -60,13 +56,13 @@ module _ (image : List ℕ) (bytes : Bytes image) {h h' : Header} {ss ss' : List
       let n : item_numbers image h s.sizes ≡ item_numbers image h' s'.sizes = λ t. item_numbers image (one_header t) (same t) in
       same_numbers items is is' (a.item_count ∙ ap (λ (g : Header). g.used_items) one_header ∙ sym b.item_count) (sym s.item_numbers_lem ∙ n ∙ s'.item_numbers_lem)
 
-pub loaded_once : {r₁ r₂ : Replied} {o : Outcome Header} → LoadedSo r₁ o → LoadedSo r₂ o → r₁ ≡ r₂
+pub loaded_once : {r₁ r₂ : Answered (Unit {0})} {o : Outcome Header} → LoadedSo r₁ o → LoadedSo r₂ o → r₁ ≡ r₂
 loaded_once {r₁} {r₂} {o} a b =
-    let answer = reply_apart r₁.answer r₂.answer (a.says ∙ sym b.says) in
+    let answer = replies.apart r₁.answer r₂.answer (a.says ∙ sym b.says) in
     let header = a.header ∙ sym b.header in
     λ z. record { answer = answer z; header = header z }
 
-pub one_load : (image : List ℕ) → Bytes image → (S I : List ℕ) (r₁ r₂ : Replied) (S₁ I₁ S₂ I₂ : List ℕ) → Loads image S I r₁ S₁ I₁ → Loads image S I r₂ S₂ I₂
+pub one_load : (image : List ℕ) → Bytes image → (S I : List ℕ) (r₁ r₂ : Answered (Unit {0})) (S₁ I₁ S₂ I₂ : List ℕ) → Loads image S I r₁ S₁ I₁ → Loads image S I r₂ S₂ I₂
     → (r₁ ≡ r₂) × (S₁ ≡ S₂) × (I₁ ≡ I₂)
 one_load image bytes S I r₁ r₂ S₁ I₁ S₂ I₂ (wrong n so s i) (wrong n' so' s' i') = (loaded_once so so', s ∙ sym s', i ∙ sym i')
 one_load image bytes S I r₁ r₂ S₁ I₁ S₂ I₂ (wrong n so s i) (few h ss is has m so' s' i') = absurd (n h ss is has)

@@ -1,5 +1,5 @@
 -- An image that is loaded saves to the same bytes, and an atlas that is saved loads to the same header and used rows. Assumes nothing.
-use Rattle.std.specs.Prelude.{◌≤◌, ◌≡◌}
+use Rattle.std.specs.Prelude.{◌≤◌, ◌≡◌, Result, Ok}
 use Rattle.numbers.specs.Library.{ℕ, refl, sym, ap, ◌∙◌, Bool, true, false, List, length, take, drop, ltb, le-ltb, arith}
 use Rattle.numbers.specs.Prelude.{pick}
 use lib.Seq.{take_at}
@@ -8,22 +8,17 @@ use Rattle.rows.specs.declared.{header.Header.Header, shelf.ShelfRow.ShelfRow, i
 use Rattle.rules.specs.Prelude.{Passes, Outcome, refused, gives, mapped}
 use Rattle.rules.specs.Promise as judged
 use Rattle.laws.specs.Same.{SameUsed}
-use Rattle.promises.specs.declared.answers.Replied.{Replied}
-use Rattle.promises.specs.declared.answers.Reply.TheVariants as reply
-use Rattle.promises.specs.Answers.{reply_says}
-use Rattle.promises.specs.Answering.{reply_apart}
+use Rattle.numbers.specs.declared.refusal.Refusal.{Refusal}
+use Rattle.promises.specs.declared.answers.Answered.{Answered}
+use Rattle.promises.specs.Answers.{says}
+use Rattle.promises.specs.Answering.{differ, replies}
 use Rattle.image_form.specs.Bytes.{over}
 use Rattle.image_form.specs.Form1.{image_of}
 use Rattle.image_form.specs.Tables.{first_rows_of, stored_from}
 use Rattle.image_form.proofs.Tables.{length-first, same_first, first_stored, length-stored}
 use Rattle.image_promises.specs.Promises.{saving_says, saved_image, written, output_after, SavedSo, Saves, Holds, HasRows, header_after, LoadedSo, Loads, wrong, few, copied}
-use Rattle.image_promises.specs.declared.answers.Saving.{Saving}
 use Rattle.image_laws.proofs.AnySize.{passes_there}
 use Rattle.image_laws.proofs.Outcomes.{Bytes, one_header, one_shelves, one_items}
-
--- a refusal is no success
-differ : {A : Type 0} {n : ℕ} {a : A} → ◌≡◌ {A = Outcome A} (refused n) (gives a) → ⊥
-differ e = let z : ◌≡◌ {A = ℕ} 0 1 = cc in omega arith
 
 -- ---- loaded, then saved
 
@@ -38,10 +33,10 @@ stored_back {h} {S} {I} {shelf_rows} {item_rows} image has fit =
     rw (← has.item_count) (first_stored items item_rows I (rw has.item_count fit.item_room)) in
     ap (λ (l : List ShelfRow). image_of h l (first_rows_of items (stored_from items 0 item_rows I) h.used_items)) s ∙ ap (image_of h shelf_rows) i ∙ sym has.is
 
-module _ (image S I : List ℕ) (r : Replied) (S' I' : List ℕ) (done : r.answer ≡ reply.Done) where
+module _ (image S I : List ℕ) (r : Answered (Unit {0})) (S' I' : List ℕ) (done : r.answer ≡ Ok tt) where
   refused_not : {n : ℕ} → LoadedSo r (refused n) → ⊥
-  unfolding reply_says mapped
-  refused_not so = differ (sym so.says ∙ ap reply_says done)
+  unfolding replies says mapped
+  refused_not so = differ (sym so.says ∙ ap replies.says done)
 
   -- what a load that succeeds leaves: the atlas passes, and the image is that of its header and used rows
   pub loaded : Loads image S I r S' I' → Passes r.header S' I' × (saved_image r.header S' I' ≡ image)
@@ -52,7 +47,7 @@ module _ (image S I : List ℕ) (r : Replied) (S' I' : List ℕ) (done : r.answe
   loaded (copied h ss is has fit s i (judged.passes p so)) = (rw so.header p, rw (so.header, s, i) (stored_back image has fit))
 
   -- "A loaded image saves to the same bytes."
-  pub loaded_saves : Loads image S I r S' I' → (out : List ℕ) → length image ≤ length out → (q : Saving) (out' : List ℕ) → Saves r.header S' I' out q out'
+  pub loaded_saves : Loads image S I r S' I' → (out : List ℕ) → length image ≤ length out → (q : Result ℕ Refusal) (out' : List ℕ) → Saves r.header S' I' out q out'
       → (saving_says q ≡ gives (length image)) × (out' ≡ over image out)
   unfolding Saves written mapped output_after
   loaded_saves l out fit q out' (judged.fails n so) = absurd (n (loaded l).0)
@@ -64,7 +59,7 @@ module _ (image S I : List ℕ) (r : Replied) (S' I' : List ℕ) (done : r.answe
 
 -- ---- saved, then loaded
 
-module _ (h : Header) (S I out : List ℕ) (r : Saving) (out' : List ℕ) (n : ℕ) (says : saving_says r ≡ gives n) where
+module _ (h : Header) (S I out : List ℕ) (r : Result ℕ Refusal) (out' : List ℕ) (n : ℕ) (says : saving_says r ≡ gives n) where
   -- what a save that succeeds leaves: the audit has passed, and the first n bytes are the image
   saved_so : (test : Bool) → SavedSo out r out' (pick test (refused 10) (gives (saved_image h S I))) → take n out' ≡ saved_image h S I
   unfolding mapped output_after
@@ -82,7 +77,7 @@ module _ (h : Header) (S I out : List ℕ) (r : Saving) (out' : List ℕ) (n : �
   unfolding saved_image
   saved_holds s = record { shelf_count = length-first shelves S h.used_shelves; item_count = length-first items I h.used_items; is = (saved s).1 }
 
-  module _ (s : Saves h S I out r out') (bytes : Bytes (take n out')) (S₂ I₂ : List ℕ) (fit : HasRows h S₂ I₂) (q : Replied) (S₂' I₂' : List ℕ) where
+  module _ (s : Saves h S I out r out') (bytes : Bytes (take n out')) (S₂ I₂ : List ℕ) (fit : HasRows h S₂ I₂) (q : Answered (Unit {0})) (S₂' I₂' : List ℕ) where
     -- stored rows are the used rows again
     used_again : {g : Header} {ss : List ShelfRow} {is : List ItemRow} → Holds (take n out') g ss is → S₂' ≡ stored_from shelves 0 ss S₂ → I₂' ≡ stored_from items 0 is I₂
         → SameUsed h h S S₂' I I₂' × HasRows h S₂' I₂'
@@ -103,12 +98,12 @@ module _ (h : Header) (S I out : List ℕ) (r : Saving) (out' : List ℕ) (n : �
         )
 
     -- A saved atlas loads to the same header and used rows, into tables of any size that have a row for each.
-    pub saved_loads : Loads (take n out') S₂ I₂ q S₂' I₂' → (q.answer ≡ reply.Done) × (q.header ≡ h) × SameUsed h h S S₂' I I₂'
-    unfolding header_after mapped reply_says
+    pub saved_loads : Loads (take n out') S₂ I₂ q S₂' I₂' → (q.answer ≡ Ok tt) × (q.header ≡ h) × SameUsed h h S S₂' I I₂'
+    unfolding header_after mapped replies says
     saved_loads (wrong m so s' i') = absurd (m _ _ _ (saved_holds s))
     saved_loads (few g ss is has m so s' i') = absurd (m (rw (one_header (take n out') bytes has (saved_holds s)) fit))
     saved_loads (copied g ss is has fits s' i' (judged.fails m so)) =
         let (used, room) = used_again has s' i' in
         absurd (m (rw (one_header (take n out') bytes has (saved_holds s)) (passes_there h S S₂' I I₂' used room (saved s).0)))
     saved_loads (copied g ss is has fits s' i' (judged.passes p so)) =
-        (reply_apart q.answer reply.Done so.says, so.header ∙ one_header (take n out') bytes has (saved_holds s), (used_again has s' i').0)
+        (replies.apart q.answer (Ok tt) so.says, so.header ∙ one_header (take n out') bytes has (saved_holds s), (used_again has s' i').0)

@@ -1,29 +1,29 @@
 -- What save and load promise, for every header, every two tables, every output and every byte string of every length. `S` and `I` are the shelf and the
 -- item table before the call, `S'` and `I'` after it, `r` is what it returns. Assumes nothing.
-use Rattle.std.specs.Prelude.{◌≤◌, ◌≡◌, ◌∷◌}
+use Rattle.std.specs.Prelude.{◌≤◌, ◌≡◌, ◌∷◌, Result}
 use Rattle.numbers.specs.Library.{ℕ, List, [], length, ltb}
 use Rattle.numbers.specs.Prelude.{pick}
+use Rattle.numbers.specs.declared.refusal.Refusal.{Refusal}
 use Rattle.rows.specs.Prelude.{rows, items, shelves, zero_header}
 use Rattle.rows.specs.declared.{header.Header.Header, shelf.ShelfRow.ShelfRow, item.ItemRow.ItemRow}
 use Rattle.rules.specs.Prelude.{Passes, Outcome, refused, gives, mapped, Judged, done}
-use Rattle.promises.specs.Answers.{reply_says, reply_numbers}
-use Rattle.promises.specs.declared.answers.Replied.{Replied}
+use Rattle.promises.specs.Answers.{says, numbers_of, one_number}
+use Rattle.promises.specs.Answering.{replies}
+use Rattle.promises.specs.declared.answers.Answered.{Answered}
 use Rattle.image_form.specs.Bytes.{over}
 use Rattle.image_form.specs.Tables.{first_rows_of, stored_from}
 use Rattle.image_form.specs.Form1.{image_of}
-use Rattle.image_promises.specs.declared.answers.Saving.{Saving}
-use Rattle.image_promises.specs.declared.answers.Saving.TheVariants as saving
 
 -- ---- save
 
--- what each case of an answer says, and in which numbers of document 01
-unfoldable pub saving_says : Saving → Outcome ℕ
-saving_says (saving.Saved n) = gives n
-saving_says (saving.Refused k) = refused k
+-- what an answer says, the image's length, and in which numbers of document 01
+unfoldable pub saving_says : Result ℕ Refusal → Outcome ℕ
+unfolding says
+saving_says = says (λ (n : ℕ). n)
 
-unfoldable pub saving_numbers : Saving → List ℕ
-saving_numbers (saving.Saved n) = 0 ∷ n ∷ []
-saving_numbers (saving.Refused k) = k ∷ 0 ∷ []
+unfoldable pub saving_numbers : Result ℕ Refusal → List ℕ
+unfolding numbers_of
+saving_numbers = numbers_of one_number 1
 
 -- "Used rows only, by rising row": the image of a header and tables
 unfoldable pub saved_image : Header → List ℕ → List ℕ → List ℕ
@@ -43,13 +43,13 @@ unfoldable pub output_after : List ℕ → Outcome (List ℕ) → List ℕ
 output_after out (refused n) = out
 output_after out (gives image) = over image out
 
-pub record SavedSo (out : List ℕ) (r : Saving) (out' : List ℕ) (o : Outcome (List ℕ)) : Type 0 where
+pub record SavedSo (out : List ℕ) (r : Result ℕ Refusal) (out' : List ℕ) (o : Outcome (List ℕ)) : Type 0 where
   pub says : saving_says r ≡ mapped length o
   pub numbers : saving_numbers r ≡ save_numbers o
   pub output : out' ≡ output_after out o
 
 -- "List and save: 3, 10."
-unfoldable pub Saves : (h : Header) (S I out : List ℕ) (r : Saving) (out' : List ℕ) → Type 0
+unfoldable pub Saves : (h : Header) (S I out : List ℕ) (r : Result ℕ Refusal) (out' : List ℕ) → Type 0
 unfolding written saved_image
 Saves h S I out r out' = Judged (Passes h S I) (SavedSo out r out') (refused 3) (written (length out) (saved_image h S I))
 
@@ -75,12 +75,12 @@ unfoldable pub load_numbers : Outcome Header → List ℕ
 load_numbers (refused n) = n ∷ []
 load_numbers (gives h) = 0 ∷ []
 
-pub record LoadedSo (r : Replied) (o : Outcome Header) : Type 0 where
-  pub says : reply_says r.answer ≡ mapped (λ h. done) o
-  pub numbers : reply_numbers r.answer ≡ load_numbers o
+pub record LoadedSo (r : Answered (Unit {0})) (o : Outcome Header) : Type 0 where
+  pub says : replies.says r.answer ≡ mapped (λ h. done) o
+  pub numbers : replies.numbers r.answer ≡ load_numbers o
   pub header : r.header ≡ header_after o
 
-pub data Loads (image S I : List ℕ) (r : Replied) (S' I' : List ℕ) : Type 0 where
+pub data Loads (image S I : List ℕ) (r : Answered (Unit {0})) (S' I' : List ℕ) : Type 0 where
   -- "any block that isn't exactly so or any other total length gives 9": there are no header and rows that have this image
   wrong : ((h : Header) (shelf_rows : List ShelfRow) (item_rows : List ItemRow) → Holds image h shelf_rows item_rows → ⊥)
       → LoadedSo r (refused 9) → S' ≡ S → I' ≡ I → Loads image S I r S' I'

@@ -12,6 +12,7 @@ use blocks::block;
 use image_sizes::Sizes;
 use numbers::index::{ItemIndex, ShelfIndex};
 use numbers::limits::Limits;
+use row_blocks::RowBlocks;
 use rows::header::Header;
 use words::word;
 
@@ -52,22 +53,22 @@ fn rows_right(image: &[u8], h: Header, z: Sizes) -> bool
     let from = z.items_from;
     let end = z.end;
     let first = 1 + z.shelf_blocks;
-    if !row_blocks::rows_right(
-        &image[512..from],
-        image_sizes::shelf_layout(),
-        1,
-        h.used_shelves as usize,
-        z.shelf_blocks,
-    ) {
+    let shelves = RowBlocks {
+        layout: image_sizes::SHELF_LAYOUT,
+        first: 1,
+        used: h.used_shelves as usize,
+        count: z.shelf_blocks,
+    };
+    if !shelves.are_right(&image[512..from]) {
         return false;
     }
-    row_blocks::rows_right(
-        &image[from..end],
-        image_sizes::item_layout(),
+    let items = RowBlocks {
+        layout: image_sizes::ITEM_LAYOUT,
         first,
-        h.used_items as usize,
-        z.item_blocks,
-    )
+        used: h.used_items as usize,
+        count: z.item_blocks,
+    };
+    items.are_right(&image[from..end])
 }
 
 // Whether every block and the length are exactly so.
@@ -77,7 +78,7 @@ pub fn image_right(image: &[u8]) -> bool
     if image.len() < 512 {
         return false;
     }
-    if !block::block_right(&image[0..512], 0, 0, 1, 12) {
+    if !block::block_right(&image[0..512], block::HEADER, 12) {
         return false;
     }
     let h = header_in(&image[0..512]);
@@ -96,18 +97,18 @@ pub fn copy_rows(image: &[u8], h: Header, z: Sizes, shelves: &mut [u16], items: 
 {
     let from = z.items_from;
     let end = z.end;
-    row_blocks::copy_rows(
-        shelves,
-        &image[512..from],
-        image_sizes::shelf_layout(),
-        h.used_shelves as usize,
-        z.shelf_blocks,
-    );
-    row_blocks::copy_rows(
-        items,
-        &image[from..end],
-        image_sizes::item_layout(),
-        h.used_items as usize,
-        z.item_blocks,
-    );
+    let shelf_blocks = RowBlocks {
+        layout: image_sizes::SHELF_LAYOUT,
+        first: 1,
+        used: h.used_shelves as usize,
+        count: z.shelf_blocks,
+    };
+    shelf_blocks.copy(shelves, &image[512..from]);
+    let item_blocks = RowBlocks {
+        layout: image_sizes::ITEM_LAYOUT,
+        first: 1 + z.shelf_blocks,
+        used: h.used_items as usize,
+        count: z.item_blocks,
+    };
+    item_blocks.copy(items, &image[from..end]);
 }

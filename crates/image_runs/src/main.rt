@@ -2,11 +2,11 @@
 // of standard input, and make.py says what they are.
 #![tactic(auto)]
 
-ghost use Rattle.std.specs.Prelude.{◌≤◌, length, IfOk};
-
-use image_promises::answers::Saving;
-use promises::answers::Reply;
+use input_bytes::read_full;
 use rows::header::Header;
+use rows::item::ItemRow;
+use rows::row::Row;
+use rows::shelf::ShelfRow;
 use std::io;
 use std::io::Read;
 
@@ -17,68 +17,21 @@ const SHELVES: usize = 512;
 
 const ITEMS: usize = 576;
 
-fn say(rt: &impl Print, text: &str) -> io::Result<()> {
-    rt.print(text)
-}
-
-fn say_number(rt: &impl Print, n: u64) -> io::Result<()> {
-    rt.print(n)
-}
-
-// Reads until the bytes are full or the input ends, and tells how many were read.
-fn read_full(input: &mut impl Read, bytes: &mut [u8]) -> io::Result<usize>
-    ensures { IfOk result (λ n. n ≤ length bytes.new) }
-{
-    let mut done: usize = 0;
-    while done < bytes.len() {
-        let n = input.read(&mut bytes[done..])?;
-        if n == 0 {
-            break;
-        }
-        done += n;
-    }
-    Ok(done)
-}
-
-fn wide(x: u16) -> u64
-    ensures { result ≤ 65535 }
-{
-    x as u64
-}
-
 fn table_sum(table: &[u16]) -> u64 {
     let mut sum: u64 = 0;
-    let mut i: usize = 0;
-    while i < table.len() {
-        sum = (sum * 31 + wide(table[i])) % 65521;
-        i += 1;
+    for number in table {
+        sum = (sum * 31 + u64::from(*number)) % 65521;
     }
     sum
 }
 
-fn is_same(a: &[u8], b: &[u8]) -> bool {
-    if a.len() != b.len() {
-        return false;
+// Whether the image that was saved is the one that was loaded.
+fn compared(n: u32, out: &[u8], image: &[u8]) -> &'static str {
+    match out.get(..n as usize) {
+        None => "too long",
+        Some(saved) if saved == image => "same",
+        Some(_) => "other",
     }
-    let mut i: usize = 0;
-    while i < a.len() {
-        if a[i] != b[i] {
-            return false;
-        }
-        i += 1;
-    }
-    true
-}
-
-fn say_saved(rt: &impl Print, n: u32, out: &[u8], image: &[u8]) -> io::Result<()> {
-    let end = n as usize;
-    if end > out.len() {
-        return say(rt, " too long");
-    }
-    if is_same(&out[0..end], image) {
-        return say(rt, " same");
-    }
-    say(rt, " other")
 }
 
 fn save_again(
@@ -90,46 +43,32 @@ fn save_again(
 ) -> io::Result<()> {
     let mut out = [0u8; LONGEST];
     match save::save(h, shelves, items, &mut out) {
-        Saving::Saved(n) => say_saved(rt, n, &out, image),
-        Saving::Refused(n) => say_number(rt, n as u64),
+        Ok(n) => print!(rt; " {}", compared(n, &out, image)),
+        Err(refusal) => print!(rt; "{}", refusal.number()),
     }
 }
 
 fn tell(rt: &impl Print, answer: u16, shelves: &[u16], items: &[u16]) -> io::Result<()> {
-    say_number(rt, answer as u64)?;
-    say(rt, " ")?;
-    say_number(rt, table_sum(shelves))?;
-    say(rt, " ")?;
-    say_number(rt, table_sum(items))
+    print!(rt; "{answer} {} {}", table_sum(shelves), table_sum(items))
 }
 
 fn run(rt: &impl Print, image: &[u8], shelves: &mut [u16], items: &mut [u16]) -> io::Result<()> {
     let r = load::load(image, shelves, items);
-    let answer = r.answer;
-    match answer {
-        Reply::Done => {
+    match r.answer {
+        Ok(()) => {
             tell(rt, 0, shelves, items)?;
             save_again(rt, r.header, shelves, items, image)?;
         }
-        Reply::Refused(n) => tell(rt, n, shelves, items)?,
+        Err(refusal) => tell(rt, refusal.number(), shelves, items)?,
     }
-    say(rt, "\n")
-}
-
-fn at_most(n: usize, most: usize) -> usize
-    ensures { result ≤ most }
-{
-    if n < most {
-        return n;
-    }
-    most
+    rt.println("")
 }
 
 fn run_in(rt: &impl Print, image: &[u8], shelf_rows: u16, item_rows: u16) -> io::Result<()> {
     let mut shelves = [7u16; SHELVES];
     let mut items = [7u16; ITEMS];
-    let s = at_most(shelf_rows as usize * rows::shelf::NUMBERS, SHELVES);
-    let i = at_most(item_rows as usize * rows::item::NUMBERS, ITEMS);
+    let s = SHELVES.min(usize::from(shelf_rows) * ShelfRow::NUMBERS);
+    let i = ITEMS.min(usize::from(item_rows) * ItemRow::NUMBERS);
     run(rt, image, &mut shelves[0..s], &mut items[0..i])
 }
 
@@ -139,7 +78,7 @@ fn turn(rt: &impl Print, input: &mut impl Read, image: &mut [u8]) -> io::Result<
     if read_full(input, &mut sizes)? < 6 {
         return Ok(false);
     }
-    let n = at_most(words::word(&sizes, 0) as usize, image.len());
+    let n = image.len().min(usize::from(words::word(&sizes, 0)));
     if read_full(input, &mut image[0..n])? < n {
         return Ok(false);
     }
@@ -153,11 +92,10 @@ fn turn(rt: &impl Print, input: &mut impl Read, image: &mut [u8]) -> io::Result<
 }
 
 fn all_turns(rt: &impl Print, input: &mut impl Read, image: &mut [u8]) -> io::Result<()> {
-    let mut turns: u32 = 100000;
-    let mut more = true;
-    while turns > 0 && more {
-        more = turn(rt, input, image)?;
-        turns -= 1;
+    for _ in 0..100000 {
+        if !turn(rt, input, image)? {
+            break;
+        }
     }
     Ok(())
 }

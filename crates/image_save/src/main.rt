@@ -1,14 +1,15 @@
 // Saves the atlas that a script on standard input leaves: its lines are obeyed, their answers go to standard error, and the image to standard output.
 #![tactic(auto)]
 
-use image_promises::answers::Saving;
 use rows::header::Header;
-use rows::{item, shelf};
+use rows::item::ItemRow;
+use rows::row::Row;
+use rows::shelf::ShelfRow;
 
 // The script program's tables; their image has 92 blocks at most.
-const SHELVES: usize = 512 * shelf::NUMBERS;
+const SHELVES: usize = 512 * ShelfRow::NUMBERS;
 
-const ITEMS: usize = 2048 * item::NUMBERS;
+const ITEMS: usize = 2048 * ItemRow::NUMBERS;
 
 const IMAGE: usize = 92 * 512;
 
@@ -16,7 +17,7 @@ const IMAGE: usize = 92 * 512;
 fn write_saved(rt: HostRuntime, h: Header, shelves: &[u16], items: &[u16]) {
     let mut out = [0u8; IMAGE];
     match save::save(h, shelves, items, &mut out) {
-        Saving::Saved(n) => {
+        Ok(n) => {
             let end = n as usize;
             if end <= IMAGE {
                 if rt.write_all(&out[0..end]).is_err() {
@@ -24,8 +25,8 @@ fn write_saved(rt: HostRuntime, h: Header, shelves: &[u16], items: &[u16]) {
                 }
             }
         }
-        Saving::Refused(n) => {
-            let _ = eprintln!(rt; "image: no {n}");
+        Err(refusal) => {
+            let _ = eprintln!(rt; "image: no {}", refusal.number());
         }
     }
 }

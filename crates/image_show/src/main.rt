@@ -1,16 +1,17 @@
 // Tells what an image on standard input holds: the size, the space and the live items of its atlas; or the number with which load refuses it, and where.
 #![tactic(auto)]
 
-ghost use Rattle.std.specs.Prelude.{◌≡◌, ◌≤◌, length, IfOk};
-ghost use Rattle.row_blocks.specs.Layout.{Laid};
+ghost use Rattle.std.specs.Prelude.{◌≡◌, ◌≤◌, length};
 
 use audit::Verdict;
-use numbers::refusal;
-use promises::answers::{Listing, Reply};
-use row_blocks::Layout;
+use blocks::block;
+use blocks::block::Heading;
+use input_bytes::read_full;
+use numbers::refusal::Refusal;
+use row_blocks::RowBlocks;
 use rows::header::Header;
-use std::io;
 use std::io::Read;
+use std::{fmt, io};
 
 // The longest image has 4,457 blocks; one byte more tells a longer one.
 const LONGEST: usize = 2281985;
@@ -22,68 +23,10 @@ const ITEMS: usize = 589815;
 
 const RECORDS: usize = 393210;
 
-fn say(rt: &impl Print, text: &str) -> io::Result<()> {
-    rt.print(text)
-}
-
-fn say_number(rt: &impl Print, n: u64) -> io::Result<()> {
-    rt.print(n)
-}
-
-// Reads until the bytes are full or the input ends, and tells how many were read.
-fn read_full(input: &mut impl Read, bytes: &mut [u8]) -> io::Result<usize>
-    ensures { IfOk result (λ n. n ≤ length bytes.new) }
-{
-    let mut done: usize = 0;
-    while done < bytes.len() {
-        let n = input.read(&mut bytes[done..])?;
-        if n == 0 {
-            break;
-        }
-        done += n;
-    }
-    Ok(done)
-}
-
-fn say_two(rt: &impl Print, what: &str, a: u64, b: u64) -> io::Result<()> {
-    say(rt, what)?;
-    say_number(rt, a)?;
-    say(rt, " ")?;
-    say_number(rt, b)?;
-    say(rt, "\n")
-}
-
-fn say_word(rt: &impl Print, n: u16) -> io::Result<()> {
-    say_number(rt, n as u64)
-}
-
-fn say_next(rt: &impl Print, n: u16) -> io::Result<()> {
-    say(rt, " ")?;
-    say_word(rt, n)
-}
-
-fn say_record(rt: &impl Print, r: &[u16]) -> io::Result<()>
-    requires { length r.now ≡ 6 }
-{
-    say_word(rt, r[0])?;
-    say_next(rt, r[1])?;
-    say_next(rt, r[2])?;
-    say_next(rt, r[3])?;
-    say_next(rt, r[4])?;
-    say_next(rt, r[5])?;
-    say(rt, "\n")
-}
-
 fn say_records(rt: &impl Print, out: &[u16], n: u16) -> io::Result<()> {
-    let mut i: usize = 0;
-    while i < n as usize {
-        let b = i * 6;
-        let e = b + 6;
-        if out.len() < e {
-            return Ok(());
-        }
-        say_record(rt, &out[b..e])?;
-        i += 1;
+    let (records, _) = out.as_chunks::<6>();
+    for [a, b, c, d, e, f] in records.iter().take(usize::from(n)) {
+        println!(rt; "{a} {b} {c} {d} {e} {f}")?;
     }
     Ok(())
 }
@@ -96,13 +39,11 @@ fn say_live(
     out: &mut [u16],
 ) -> io::Result<()> {
     match listing::list::list(h, shelves, items, out) {
-        Listing::Listed(n) => {
+        Ok(n) => {
             say_records(rt, out, n)?;
-            say(rt, "live ")?;
-            say_number(rt, n as u64)?;
-            say(rt, "\n")
+            println!(rt; "live {n}")
         }
-        Listing::Refused(n) => say_number(rt, n as u64),
+        Err(refusal) => print!(rt; "{}", refusal.number()),
     }
 }
 
@@ -113,185 +54,190 @@ fn say_atlas(
     items: &[u16],
     out: &mut [u16],
 ) -> io::Result<()> {
-    say_two(rt, "size ", h.limits.width as u64, h.limits.height as u64)?;
-    say_two(rt, "rows ", h.used_shelves as u64, h.used_items as u64)?;
-    say(rt, "occupied ")?;
-    say_number(rt, h.occupied as u64)?;
-    say(rt, "\n")?;
+    println!(rt; "size {} {}", h.limits.width, h.limits.height)?;
+    println!(rt; "rows {} {}", h.used_shelves, h.used_items)?;
+    println!(rt; "occupied {}", h.occupied)?;
     say_live(rt, h, shelves, items, out)
 }
 
-fn say_block(rt: &impl Print, what: &str, number: usize) -> io::Result<()> {
-    say(rt, what)?;
-    say_number(rt, number as u64)
+// What is wrong with a block, or from one on.
+#[derive(Clone, Copy)]
+enum Part {
+    Number,
+    Form,
+    Kind,
+    Rows,
+    UnusedByte,
+    Check,
+    // It is missing, cut short, or one too many.
+    Length,
 }
 
-// Tells the first part of the heading that is not what it is due to be, if there is one.
-fn is_heading_wrong(
-    rt: &impl Print,
-    block: &[u8],
-    number: usize,
-    kind: u16,
-    rows: usize,
-) -> io::Result<bool>
+impl fmt::Display for Part {
+    fn fmt<W: fmt::Write>(&self, f: &mut fmt::Formatter<W>) -> fmt::Result {
+        f.write_str(match self {
+            Part::Number => "number wrong in block",
+            Part::Form => "form wrong in block",
+            Part::Kind => "kind wrong in block",
+            Part::Rows => "rows wrong in block",
+            Part::UnusedByte => "unused byte wrong in block",
+            Part::Check => "check wrong in block",
+            Part::Length => "length wrong from block",
+        })
+    }
+}
+
+// What is wrong first with an image, and with which of its blocks.
+#[derive(Clone, Copy)]
+struct Fault {
+    part: Part,
+    number: u16,
+}
+
+// Why load refuses an image.
+#[derive(Clone, Copy)]
+enum Why {
+    Image(Fault),
+    Audit(Verdict),
+    TooFewRows,
+}
+
+impl fmt::Display for Why {
+    fn fmt<W: fmt::Write>(&self, f: &mut fmt::Formatter<W>) -> fmt::Result {
+        match self {
+            Why::Image(fault) => write!(f, "{} {}", fault.part, fault.number),
+            // Load has audited the same rows, so this is not met.
+            Why::Audit(Verdict::Passes) => f.write_str("the audit fails"),
+            Why::Audit(Verdict::Rules5To7) => write!(
+                f,
+                "one of audit {} fails",
+                Verdict::Rules5To7
+            ),
+            Why::Audit(verdict) => write!(f, "audit {verdict} fails"),
+            Why::TooFewRows => f.write_str("too few rows in the tables"),
+        }
+    }
+}
+
+// The first part of the heading that is not what it is due to be.
+fn heading_fault(block: &[u8], due: Heading) -> Option<Part>
     requires { length block.now ≡ 512 }
 {
-    if words::word(block, 0) as usize != number {
-        say_block(rt, "number wrong in block ", number)?;
-        return Ok(true);
+    let form_and_kind = words::word(block, 1);
+    if words::word(block, 0) != due.number {
+        return Some(Part::Number);
     }
-    if words::word(block, 1) % 256 != 1 {
-        say_block(rt, "form wrong in block ", number)?;
-        return Ok(true);
+    if form_and_kind % 256 != 1 {
+        return Some(Part::Form);
     }
-    if words::word(block, 1) / 256 != kind {
-        say_block(rt, "kind wrong in block ", number)?;
-        return Ok(true);
+    if form_and_kind / 256 != u16::from(due.kind) {
+        return Some(Part::Kind);
     }
-    if words::word(block, 2) as usize != rows {
-        say_block(rt, "rows wrong in block ", number)?;
-        return Ok(true);
+    if words::word(block, 2) != due.rows {
+        return Some(Part::Rows);
     }
-    Ok(false)
+    None
 }
 
-// Tells what is wrong first, if something is, with a block that is due to have this heading and so many words of data.
-fn is_wrong(
-    rt: &impl Print,
-    block: &[u8],
-    number: usize,
-    kind: u16,
-    rows: usize,
-    count: usize,
-) -> io::Result<bool>
+// What is wrong first with a block that is due to have this heading and so many words of data.
+fn block_fault(block: &[u8], due: Heading, count: usize) -> Option<Fault>
     requires { (length block.now ≡ 512) × (count ≤ 252) }
 {
-    if is_heading_wrong(rt, block, number, kind, rows)? {
-        return Ok(true);
+    let number = due.number;
+    if let Some(part) = heading_fault(block, due) {
+        return Some(Fault { part, number });
     }
     let end = 6 + 2 * count;
     if words::sum_of_words(&block[end..510]) != 0 {
-        say_block(rt, "unused byte wrong in block ", number)?;
-        return Ok(true);
+        let part = Part::UnusedByte;
+        return Some(Fault { part, number });
     }
-    if words::sum_of_words(&block[0..510]) % 65535 != words::word(block, 255) as u32 {
-        say_block(rt, "check wrong in block ", number)?;
-        return Ok(true);
+    if words::sum_of_words(&block[0..510]) % 65535 != u32::from(words::word(block, 255)) {
+        let part = Part::Check;
+        return Some(Fault { part, number });
     }
-    Ok(false)
+    None
 }
 
-// A block that is missing, cut short, or one too many.
-fn say_length(rt: &impl Print, number: usize) -> io::Result<()> {
-    say_block(rt, "length wrong from block ", number)
-}
-
-// Tells the first of n blocks of used rows, from block `first` of the image on, that is not there or wrong, if there is one.
-fn is_one_wrong(
-    rt: &impl Print,
-    image: &[u8],
-    k: Layout,
-    first: usize,
-    used: usize,
-    n: usize,
-) -> io::Result<bool>
-    requires { Laid k first used n }
-{
-    let mut b: usize = 0;
-    while b < n {
-        let rows = row_blocks::rows_in(k, used, b);
-        let number = first + b;
+// The same of the first of the blocks that is not there or wrong.
+fn rows_fault(image: &[u8], blocks: RowBlocks) -> Option<Fault> {
+    for b in 0..blocks.count {
+        let rows = blocks.rows_in(b);
+        let number = blocks.first + b;
+        let due = blocks.layout.heading(number, rows);
         let at = number * 512;
         let to = at + 512;
         if image.len() < to {
-            say_length(rt, number)?;
-            return Ok(true);
+            return Some(Fault {
+                part: Part::Length,
+                number: due.number,
+            });
         }
-        if is_wrong(rt, &image[at..to], number, k.kind, rows, rows * k.width)? {
-            return Ok(true);
+        let fault = block_fault(&image[at..to], due, rows * blocks.layout.width);
+        if fault.is_some() {
+            return fault;
         }
-        b += 1;
     }
-    Ok(false)
+    None
 }
 
-// Tells the first block that is wrong. Load judges the length before the blocks of the rows; here it is judged block by block, so that a block can be named.
-fn say_fault(rt: &impl Print, image: &[u8], h: Header) -> io::Result<()>
+// What is wrong first. Load judges the length before the blocks of the rows; here it is judged block by block, so that a block can be named.
+fn image_fault(image: &[u8], h: Header) -> Fault
     requires { 512 ≤ length image.now }
 {
-    if is_wrong(rt, &image[0..512], 0, 0, 1, 12)? {
-        return Ok(());
+    if let Some(fault) = block_fault(&image[0..512], block::HEADER, 12) {
+        return fault;
     }
     let z = image_sizes::sizes_of(h);
-    let shelves = image_sizes::shelf_layout();
-    if is_one_wrong(
-        rt,
-        image,
-        shelves,
-        1,
-        h.used_shelves as usize,
-        z.shelf_blocks,
-    )? {
-        return Ok(());
+    let shelves = RowBlocks {
+        layout: image_sizes::SHELF_LAYOUT,
+        first: 1,
+        used: h.used_shelves as usize,
+        count: z.shelf_blocks,
+    };
+    if let Some(fault) = rows_fault(image, shelves) {
+        return fault;
     }
     let first = 1 + z.shelf_blocks;
-    let items = image_sizes::item_layout();
-    if is_one_wrong(
-        rt,
-        image,
-        items,
+    let items = RowBlocks {
+        layout: image_sizes::ITEM_LAYOUT,
         first,
-        h.used_items as usize,
-        z.item_blocks,
-    )? {
-        return Ok(());
+        used: h.used_items as usize,
+        count: z.item_blocks,
+    };
+    if let Some(fault) = rows_fault(image, items) {
+        return fault;
     }
-    say_length(rt, first + z.item_blocks)
-}
-
-// Load has audited the same rows, so the last case is not met.
-fn say_rule(rt: &impl Print, v: Verdict) -> io::Result<()> {
-    match v {
-        Verdict::Rule1 => say(rt, "audit rule 1 fails"),
-        Verdict::Rule2 => say(rt, "audit rule 2 fails"),
-        Verdict::Rule3 => say(rt, "audit rule 3 fails"),
-        Verdict::Rules5To7 => say(rt, "one of audit rules 5 to 7 fails"),
-        Verdict::Passes => say(rt, "the audit fails"),
+    Fault {
+        part: Part::Length,
+        number: (first + z.item_blocks) as u16,
     }
 }
 
-fn say_why(
-    rt: &impl Print,
-    n: u16,
-    image: &[u8],
-    shelves: &[u16],
-    items: &[u16],
-) -> io::Result<()> {
+fn why_refused(refusal: Refusal, image: &[u8], shelves: &[u16], items: &[u16]) -> Why {
     if image.len() < 512 {
-        return say_length(rt, 0);
+        return Why::Image(Fault {
+            part: Part::Length,
+            number: 0,
+        });
     }
     let h = image_read::header_in(&image[0..512]);
-    if n == refusal::IMAGE {
-        return say_fault(rt, image, h);
+    match refusal {
+        Refusal::Image => Why::Image(image_fault(image, h)),
+        Refusal::Audit => Why::Audit(audit::audit(h, shelves, items)),
+        _ => Why::TooFewRows,
     }
-    if n == refusal::AUDIT {
-        return say_rule(rt, audit::audit(h, shelves, items));
-    }
-    say(rt, "too few rows in the tables")
 }
 
 fn say_refusal(
     rt: &impl Print,
-    n: u16,
+    refusal: Refusal,
     image: &[u8],
     shelves: &[u16],
     items: &[u16],
 ) -> io::Result<()> {
-    say(rt, "no ")?;
-    say_number(rt, n as u64)?;
-    say(rt, ": ")?;
-    say_why(rt, n, image, shelves, items)?;
-    say(rt, "\n")
+    let why = why_refused(refusal, image, shelves, items);
+    println!(rt; "no {}: {why}", refusal.number())
 }
 
 fn show(
@@ -302,10 +248,9 @@ fn show(
     out: &mut [u16],
 ) -> io::Result<()> {
     let r = load::load(image, shelves, items);
-    let answer = r.answer;
-    match answer {
-        Reply::Done => say_atlas(rt, r.header, shelves, items, out),
-        Reply::Refused(n) => say_refusal(rt, n, image, shelves, items),
+    match r.answer {
+        Ok(()) => say_atlas(rt, r.header, shelves, items, out),
+        Err(refusal) => say_refusal(rt, refusal, image, shelves, items),
     }
 }
 

@@ -1,38 +1,25 @@
 // What saved form 1 says in numbers: the layouts of its two kinds of rows, and how many blocks an atlas takes.
 #![tactic(auto)]
 
-ghost use Rattle.std.specs.Prelude.{◌≡◌};
-ghost use Rattle.image_form.specs.Form1.{shelf_rows_of, item_rows_of};
-ghost use Rattle.row_blocks.specs.Layout.{layout_of};
 ghost use Rattle.image_sizes.specs.Sizes.{SizesOf};
 
 use row_blocks::Layout;
 use rows::header::Header;
-use rows::{item, shelf};
+use rows::item::ItemRow;
+use rows::row::Row;
+use rows::shelf::ShelfRow;
 
-const SHELF_ROWS: usize = 31;
+pub const SHELF_LAYOUT: Layout = Layout {
+    kind: 1,
+    most: 31,
+    width: ShelfRow::NUMBERS,
+};
 
-const ITEM_ROWS: usize = 28;
-
-pub fn shelf_layout() -> Layout
-    ensures { result ≡ layout_of shelf_rows_of }
-{
-    Layout {
-        kind: 1,
-        most: SHELF_ROWS,
-        width: shelf::NUMBERS,
-    }
-}
-
-pub fn item_layout() -> Layout
-    ensures { result ≡ layout_of item_rows_of }
-{
-    Layout {
-        kind: 2,
-        most: ITEM_ROWS,
-        width: item::NUMBERS,
-    }
-}
+pub const ITEM_LAYOUT: Layout = Layout {
+    kind: 2,
+    most: 28,
+    width: ItemRow::NUMBERS,
+};
 
 // The blocks of each kind, where in the image those of the items start, and where it ends.
 #[derive(Clone, Copy)]
@@ -46,8 +33,8 @@ pub struct Sizes {
 pub fn sizes_of(h: Header) -> Sizes
     ensures { SizesOf h result }
 {
-    let shelf_blocks = (h.used_shelves as usize + (SHELF_ROWS - 1)) / SHELF_ROWS;
-    let item_blocks = (h.used_items as usize + (ITEM_ROWS - 1)) / ITEM_ROWS;
+    let shelf_blocks = usize::from(h.used_shelves).div_ceil(SHELF_LAYOUT.most);
+    let item_blocks = usize::from(h.used_items).div_ceil(ITEM_LAYOUT.most);
     let items_from = 512 + shelf_blocks * 512;
     Sizes {
         shelf_blocks,

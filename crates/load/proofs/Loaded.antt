@@ -1,23 +1,32 @@
 -- The promise of load from what the code has seen. Assumes nothing.
-use Rattle.std.specs.Prelude.{◌≤◌, ◌<◌, ◌≡◌}
+use Rattle.std.specs.Prelude.{◌≤◌, ◌<◌, ◌≡◌, Err}
 use Rattle.numbers.specs.Library.{ℕ, refl, sym, ap, ◌∙◌, Bool, true, not, List, length, get_or}
-use Rattle.numbers.specs.Prelude.{Decides, denied}
-use Rattle.rows.specs.Prelude.{rows, items, shelves}
+use Rattle.numbers.specs.Prelude.{Decides, denied, refusal_number}
+use Rattle.numbers.specs.declared.refusal.Refusal.{Refusal}
+use Rattle.rows.specs.Prelude.{rows, items, shelves, zero_header}
 use Rattle.rows.specs.declared.header.Header.{Header}
-use Rattle.rules.specs.Prelude.{Passes, refused, gives, Judged}
-use Rattle.promises.specs.declared.answers.Replied.{Replied}
+use Rattle.rules.specs.Prelude.{Passes, refused, gives, mapped, Judged}
+use Rattle.rules.specs.Step.{zeros}
+use Rattle.promises.specs.Prelude.{replies}
+use Rattle.promises.specs.Answers.{says, numbers_of}
+use Rattle.promises.specs.declared.answers.Answered.{Answered}
 use Rattle.image_form.specs.Bytes.{over}
 use Rattle.image_form.specs.Tables.{stored_from}
 use Rattle.image_form.proofs.Tables.{numbers, length-first, stored_over}
 use Rattle.image_sizes.specs.Sizes.{SizesOf}
 use Rattle.image_sizes.specs.declared.Sizes.{Sizes}
-use Rattle.image_promises.specs.Promises.{HasRows, LoadedSo, Loads, wrong, few, copied}
+use Rattle.image_promises.specs.Promises.{HasRows, load_numbers, header_after, LoadedSo, Loads, wrong, few, copied}
 use Rattle.image_read.specs.Right.{header_in, header_block, ImageRight, shelf_numbers, item_numbers}
 use Rattle.image_read.proofs.Standing.{same_sizes, shelves_standing, items_standing, right_holds, Stands, holds_stands}
 
+-- a refusal, with the all-zero header
+pub load_refused : (e : Refusal) {r : Answered (Unit {0})} → r ≡ record { answer = Err e; header = zero_header } → LoadedSo r (refused (refusal_number e))
+unfolding mapped replies says numbers_of zeros load_numbers header_after
+load_refused e is = rw is (record { says = refl; numbers = refl; header = refl })
+
 -- ---- 9, 7, and the rows copied
 
-module _ (image : List ℕ) (small : (i : ℕ) → get_or image i 0 < 256) (S I : List ℕ) (r : Replied) where
+module _ (image : List ℕ) (small : (i : ℕ) → get_or image i 0 < 256) (S I : List ℕ) (r : Answered (Unit {0})) where
   pub loads_9 : {test : Bool} → Decides test (ImageRight image) → not test ≡ true → LoadedSo r (refused 9) → Loads image S I r S I
   loads_9 d e so =
       wrong (λ h shelf_rows item_rows has. let s = holds_stands image small has in denied d e (record { sizes = s.sizes; right = s.right })) so refl refl

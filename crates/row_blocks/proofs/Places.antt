@@ -30,7 +30,7 @@ module _ (k : Layout) (used b : ℕ) (passed : b * k.most ≤ used) (room : k.mo
         ends = omega (arith, mul-le-mul_right k.width sum, add-mul (b * k.most) r k.width);
       }
 
-  -- the code's two cases
+  -- of the last block, and of one before it
   pub rows_left : used - b * k.most < k.most → Rows k used b (used - b * k.most)
   unfolding rows_in_of
   rows_left c = rows_are _ (sym (min-eq_right (omega arith)))
@@ -38,6 +38,16 @@ module _ (k : Layout) (used b : ℕ) (passed : b * k.most ≤ used) (room : k.mo
   pub rows_most : k.most ≤ used - b * k.most → Rows k used b k.most
   unfolding rows_in_of
   rows_most c = rows_are _ (sym (min-eq_left (omega arith)))
+
+-- where the blocks stand in the image is nothing to the table
+pub laid_from_zero : {k : Layout} {first used n : ℕ} → Laid k first used n → Laid k 0 used n
+laid_from_zero l = record {
+  rows_fit = l.rows_fit;
+  all_held = l.all_held;
+  each_some = l.each_some;
+  few_rows = l.few_rows;
+  few_blocks = omega (arith, l.few_blocks);
+}
 
 -- each of the n blocks has a row
 pub passed : {k : Layout} {first used n : ℕ} → Laid k first used n → (b : ℕ) → b < n → b * k.most ≤ used
@@ -48,7 +58,6 @@ place {k} {first} {used} {n} l b c = rows_are k used b (passed l b c) l.rows_fit
 
 pub there : {k : Layout} {first used n : ℕ} → Laid k first used n → (image : List ℕ) → n * 512 ≤ length image → (b r : ℕ) → b < n → Rows k used b r → There k first b r image
 there l image long b r c p = record {
-  kind_fits = l.kind_fits;
   number_fits = omega (arith, l.few_blocks);
   rows_fit = omega (arith, l.few_rows);
   held = p.held;
@@ -83,7 +92,6 @@ module _ {k : Layout} {first used n : ℕ} (l : Laid k first used n) where
 
   pub full_laid : {full : ℕ} → Filled k used n full → Laid k first (full * k.most) full
   full_laid f = record {
-    kind_fits = l.kind_fits;
     rows_fit = l.rows_fit;
     all_held = omega arith;
     each_some = omega arith;
@@ -98,10 +106,6 @@ module _ {k : Layout} {first used n : ℕ} (l : Laid k first used n) where
 
 pub part_long : (l : List ℕ) (from count : ℕ) → from + count ≤ length l → length (take (from + count - from) (drop from l)) ≡ count
 part_long l from count c = rw add-sub_cancel_left (length-take-le count (drop from l) (omega (arith, length-drop from l)))
-
-pub part_few : (table : List ℕ) (from count : ℕ) → count ≤ 252 → length (take (from + count - from) (drop from table)) ≤ 252
-part_few table from count c =
-    rw add-sub_cancel_left (omega (arith, length-take count (drop from table), min-le_left count (length (drop from table))))
 
 -- ---- written
 

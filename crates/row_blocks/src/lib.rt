@@ -2,55 +2,53 @@
 // above.
 #![tactic(auto)]
 
-ghost use Rattle.std.specs.Prelude.{◌≡◌, ◌+◌, ◌*◌, ◌≤◌, length};
+ghost use Rattle.std.specs.Prelude.{◌≡◌, ◌+◌, ◌*◌, ◌<◌, ◌≤◌, length};
 ghost use Rattle.numbers.specs.Prelude.{Decides};
 ghost use Rattle.image_form.specs.Bytes.{bytes_of, words_of, over};
 ghost use Rattle.image_form.specs.Blocks.{up_to};
 ghost use Rattle.row_blocks.specs.Layout.{Laid, Rows, There, table_block, over_from, standing, RightAt, AllRight, held_in_of};
 
 use blocks::block;
+use blocks::block::Heading;
 
 // A kind of blocks that hold rows: its number, how many rows a block has at most, and how many numbers a row has.
 #[derive(Clone, Copy)]
 pub struct Layout {
-    pub kind: u16,
+    pub kind: u8,
     pub most: usize,
     pub width: usize,
 }
 
-// How many rows block b of the kind has.
-pub fn rows_in(k: Layout, used: usize, b: usize) -> usize
-    requires { (b * k.most ≤ used) × (used ≤ 65535) × (k.most * k.width ≤ 252) }
-    ensures { Rows k used b result }
-{
-    let left = used - b * k.most;
-    if left < k.most {
-        return left;
+impl Layout {
+    // How many of the used rows block b has.
+    pub fn rows_in(self, used: usize, b: usize) -> usize
+        requires { (b * self.most ≤ used) × (used ≤ 65535) × (self.most * self.width ≤ 252) }
+        ensures { Rows self used b result }
+    {
+        self.most.min(used - b * self.most)
     }
-    k.most
+
+    // What stands in front of a block of the kind.
+    pub fn heading(self, number: usize, rows: usize) -> Heading
+        requires { (number < 65536) × (rows < 65536) }
+        ensures { result ≡ record { number = number; kind = self.kind; rows = rows } }
+    {
+        Heading {
+            number: number as u16,
+            kind: self.kind,
+            rows: rows as u16,
+        }
+    }
 }
 
-// The used rows go to n blocks, from block `first` of the image on.
-pub fn write_rows(out: &mut [u8], k: Layout, first: usize, used: usize, n: usize, table: &[u16])
-    requires { Laid k first used n × (length out.old ≡ n * 512) × (used * k.width ≤ length table.now) }
-    ensures { out.new ≡ bytes_of (up_to (table_block k used first table.now) n) }
-{
-    let mut b: usize = 0;
-    while b < n {
-        let rows = rows_in(k, used, b);
-        let at = b * 512;
-        let to = at + 512;
-        let from = b * k.most * k.width;
-        let end = from + rows * k.width;
-        block::write_block(
-            &mut out[at..to],
-            (first + b) as u16,
-            k.kind,
-            rows as u16,
-            &table[from..end],
-        );
-        b += 1;
-    }
+// The blocks that hold the used rows of a table: how many they are, and which block of the image is the first of them.
+#[derive(Clone, Copy)]
+pub struct RowBlocks {
+    pub layout: Layout,
+    pub first: usize,
+    pub used: usize,
+    pub count: usize,
+    ghost laid: { Laid layout first used count },
 }
 
 // Whether block b is right, with so many rows.
@@ -60,13 +58,8 @@ fn one_right(image: &[u8], k: Layout, first: usize, b: usize, rows: usize) -> bo
 {
     let at = b * 512;
     let to = at + 512;
-    block::block_right(
-        &image[at..to],
-        (first + b) as u16,
-        k.kind,
-        rows as u16,
-        rows * k.width,
-    )
+    let heading = k.heading(first + b, rows);
+    block::block_right(&image[at..to], heading, rows * k.width)
 }
 
 // Whether the blocks that are full are right. Their sizes are the same, and worked out once; where no block is full, not at all.
@@ -77,30 +70,12 @@ fn full_right(image: &[u8], k: Layout, first: usize, full: usize) -> bool
     if full == 0 {
         return true;
     }
-    let mut b: usize = 0;
-    while b < full {
-        let right = one_right(image, k, first, b, k.most);
-        b += 1;
-        if !right {
+    for b in 0..full {
+        if !one_right(image, k, first, b, k.most) {
             return false;
         }
     }
     true
-}
-
-// Whether these are n blocks of used rows, from block `first` of the image on. Only the last can have room left.
-pub fn rows_right(image: &[u8], k: Layout, first: usize, used: usize, n: usize) -> bool
-    requires { Laid k first used n × (length image.now ≡ n * 512) }
-    ensures { Decides result (AllRight k used first n (words_of image.now)) }
-{
-    let full = used / k.most;
-    if !full_right(image, k, first, full) {
-        return false;
-    }
-    if full == n {
-        return true;
-    }
-    one_right(image, k, first, full, used - full * k.most)
 }
 
 // The rows that stand in block b go to their place in a table.
@@ -115,19 +90,64 @@ fn copy_block(table: &mut [u16], image: &[u8], k: Layout, b: usize, rows: usize)
     words::read_words(&mut table[from..end], &image[at..to]);
 }
 
-// The rows that stand in n blocks go to the front of a table: those of the full blocks, then those of the last where it has room left.
-pub fn copy_rows(table: &mut [u16], image: &[u8], k: Layout, used: usize, n: usize)
-    requires { Laid k 0 used n × (length image.now ≡ n * 512) × (used * k.width ≤ length table.old) }
-    ensures { table.new ≡ over (up_to (held_in_of k used (words_of image.now)) n) table.old }
-{
-    let full = used / k.most;
-    let mut b: usize = 0;
-    while b < full {
-        copy_block(table, image, k, b, k.most);
-        b += 1;
+impl RowBlocks {
+    // How many rows block b has.
+    pub fn rows_in(self, b: usize) -> usize
+        requires { b < self.count }
+        ensures { Rows self.layout self.used b result }
+    {
+        self.layout.rows_in(self.used, b)
     }
-    if full == n {
-        return;
+
+    // The used rows go to the blocks.
+    pub fn write(self, out: &mut [u8], table: &[u16])
+        requires { (length out.old ≡ self.count * 512) × (self.used * self.layout.width ≤ length table.now) }
+        ensures { out.new ≡ bytes_of (up_to (table_block self.layout self.used self.first table.now) self.count) }
+    {
+        let k = self.layout;
+        for b in 0..self.count {
+            let rows = self.rows_in(b);
+            let at = b * 512;
+            let to = at + 512;
+            let from = b * k.most * k.width;
+            let end = from + rows * k.width;
+            let heading = k.heading(self.first + b, rows);
+            block::write_block(&mut out[at..to], heading, &table[from..end]);
+        }
     }
-    copy_block(table, image, k, full, used - full * k.most);
+
+    // Whether these are the blocks of the used rows. Only the last can have room left.
+    pub fn are_right(self, image: &[u8]) -> bool
+        requires { length image.now ≡ self.count * 512 }
+        ensures { Decides result (AllRight self.layout self.used self.first self.count (words_of image.now)) }
+    {
+        let k = self.layout;
+        let first = self.first;
+        let used = self.used;
+        let full = used / k.most;
+        if !full_right(image, k, first, full) {
+            return false;
+        }
+        if full == self.count {
+            return true;
+        }
+        one_right(image, k, first, full, used - full * k.most)
+    }
+
+    // The rows that stand in the blocks go to the front of a table: those of the full blocks, then those of the last where it has room left.
+    pub fn copy(self, table: &mut [u16], image: &[u8])
+        requires { (length image.now ≡ self.count * 512) × (self.used * self.layout.width ≤ length table.old) }
+        ensures { table.new ≡ over (up_to (held_in_of self.layout self.used (words_of image.now)) self.count) table.old }
+    {
+        let k = self.layout;
+        let used = self.used;
+        let full = used / k.most;
+        for b in 0..full {
+            copy_block(table, image, k, b, k.most);
+        }
+        if full == self.count {
+            return;
+        }
+        copy_block(table, image, k, full, used - full * k.most);
+    }
 }

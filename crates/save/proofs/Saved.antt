@@ -1,13 +1,15 @@
 -- The image of an atlas by its three parts, as they are written: the header block, the shelf rows' blocks, the item rows'. And the promise of save from what
 -- the code has seen. Assumes nothing.
-use Rattle.std.specs.Prelude.{◌+◌, ◌-◌, ◌*◌, ◌≤◌, ◌<◌, ◌≡◌, ◌++◌}
+use Rattle.std.specs.Prelude.{◌+◌, ◌-◌, ◌*◌, ◌≤◌, ◌<◌, ◌≡◌, ◌++◌, Ok, Err}
 use Rattle.numbers.specs.Library.{ℕ, refl, sym, ap, ◌∙◌, Bool, true, false, not, List, length, length-append, length-drop, length-take-le, take, drop, arith}
 use Rattle.numbers.specs.Library.{ltb, lt-ltb, le-ltb}
 use Rattle.numbers.specs.Prelude.{Decides, denied}
+use Rattle.numbers.specs.declared.refusal.Refusal.TheVariants as refusal
 use Rattle.rows.specs.Prelude.{rows, items, shelves}
 use Rattle.rows.specs.declared.header.Header.{Header}
 use Rattle.rules.specs.Prelude.{Passes, gives, mapped}
 use Rattle.rules.specs.Promise as judged
+use Rattle.promises.specs.Answers.{says, numbers_of}
 use Rattle.image_form.specs.Bytes.{bytes_of, over}
 use Rattle.image_form.specs.Blocks.{Kind, block, up_to, block_count, blocks_of}
 use Rattle.image_form.specs.Form1.{form1, header_words, shelf_rows_of, item_rows_of, image_words, image_of}
@@ -23,7 +25,6 @@ use Rattle.image_sizes.specs.Sizes.{SizesOf}
 use Rattle.image_sizes.specs.declared.Sizes.{Sizes}
 use Rattle.image_sizes.proofs.Fitting.{shelves_laid, items_laid}
 use Rattle.image_promises.specs.Promises.{saved_image, written, saving_says, saving_numbers, save_numbers, output_after, SavedSo, Saves, HasRows}
-use Rattle.image_promises.specs.declared.answers.Saving.TheVariants as saving
 
 -- a kind's blocks of a table's first rows, in numbers
 by_numbers : {A : Type 0} (k : Kind A) {first used n : ℕ} → Laid (layout_of k) first used n → n ≡ block_count k.most used → (table : List ℕ) → used ≤ rows k.shape table
@@ -119,8 +120,8 @@ module _ (h : Header) {z : Sizes} (is : SizesOf h z) (S I : List ℕ) (has : Has
 
 -- ---- 3, 10, and the image
 
-pub saves_3 : (h : Header) (S I : List ℕ) {test : Bool} → Decides test (Passes h S I) → not test ≡ true → (out : List ℕ) → Saves h S I out (saving.Refused 3) out
-unfolding Saves saving_says mapped saving_numbers save_numbers output_after
+pub saves_3 : (h : Header) (S I : List ℕ) {test : Bool} → Decides test (Passes h S I) → not test ≡ true → (out : List ℕ) → Saves h S I out (Err refusal.Audit) out
+unfolding Saves saving_says says mapped saving_numbers numbers_of save_numbers output_after
 saves_3 h S I d e out = judged.fails (denied d e) (record { says = refl; numbers = refl; output = refl })
 
 module _ (h : Header) {z : Sizes} (is : SizesOf h z) (S I : List ℕ) (p : Passes h S I) (out : List ℕ) where
@@ -130,14 +131,14 @@ module _ (h : Header) {z : Sizes} (is : SizesOf h z) (S I : List ℕ) (p : Passe
   long : length (saved_image h S I) ≡ z.end
   long = length_saved h is S I has_rows_lem
 
-  pub saves_short : length out < z.end → Saves h S I out (saving.Refused 10) out
-  unfolding Saves written saving_says mapped saving_numbers save_numbers output_after
+  pub saves_short : length out < z.end → Saves h S I out (Err refusal.TooShort) out
+  unfolding Saves written saving_says says mapped saving_numbers numbers_of save_numbers output_after
   saves_short b = judged.passes p (rw (long, lt-ltb (length out) z.end b) (record { says = refl; numbers = refl; output = refl }))
 
-  pub saves_all : z.end ≤ length out → (out' : List ℕ) → out' ≡ over (saved_image h S I) out → Saves h S I out (saving.Saved z.end) out'
-  unfolding Saves written saving_says mapped saving_numbers save_numbers output_after
+  pub saves_all : z.end ≤ length out → (out' : List ℕ) → out' ≡ over (saved_image h S I) out → Saves h S I out (Ok z.end) out'
+  unfolding Saves written saving_says says mapped saving_numbers numbers_of save_numbers output_after
   saves_all b out' e = judged.passes p (pick_no_rewritten) where
-    pick_no_rewritten : SavedSo out (saving.Saved z.end) out' (written (length out) (saved_image h S I))
+    pick_no_rewritten : SavedSo out (Ok z.end) out' (written (length out) (saved_image h S I))
     pick_no_rewritten =
         let t : ltb (length out) (length (saved_image h S I)) ≡ false = le-ltb (length out) (length (saved_image h S I)) (rw long b) in
         rw t (record { says = ap gives (sym long); numbers = rw long refl; output = e })

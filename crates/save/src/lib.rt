@@ -10,9 +10,9 @@ ghost use Rattle.image_sizes.specs.Sizes.{SizesOf};
 ghost use Rattle.image_promises.specs.Promises.{HasRows, saved_image, Saves};
 
 use blocks::block;
-use image_promises::answers::Saving;
 use image_sizes::Sizes;
-use numbers::refusal;
+use numbers::refusal::Refusal;
+use row_blocks::RowBlocks;
 use rows::header::Header;
 
 // The words of the header block.
@@ -40,7 +40,7 @@ fn write_header(out: &mut [u8], h: Header)
     ensures { out.new ≡ bytes_of (block form1 0 0 1 (header_words h)) }
 {
     let words = header_words(h);
-    block::write_block(out, 0, 0, 1, &words);
+    block::write_block(out, block::HEADER, &words);
 }
 
 // The image goes to the front of the output, which has room for it.
@@ -52,44 +52,47 @@ fn write_image(h: Header, z: Sizes, shelves: &[u16], items: &[u16], out: &mut [u
     let end = z.end;
     let first = 1 + z.shelf_blocks;
     write_header(&mut out[0..512], h);
-    row_blocks::write_rows(
-        &mut out[512..from],
-        image_sizes::shelf_layout(),
-        1,
-        h.used_shelves as usize,
-        z.shelf_blocks,
-        shelves,
-    );
-    row_blocks::write_rows(
-        &mut out[from..end],
-        image_sizes::item_layout(),
+    let shelf_blocks = RowBlocks {
+        layout: image_sizes::SHELF_LAYOUT,
+        first: 1,
+        used: h.used_shelves as usize,
+        count: z.shelf_blocks,
+    };
+    shelf_blocks.write(&mut out[512..from], shelves);
+    let item_blocks = RowBlocks {
+        layout: image_sizes::ITEM_LAYOUT,
         first,
-        h.used_items as usize,
-        z.item_blocks,
-        items,
-    );
+        used: h.used_items as usize,
+        count: z.item_blocks,
+    };
+    item_blocks.write(&mut out[from..end], items);
 }
 
 // The length of the image that now stands at the front of the output, or 10 where it has no room for one. No audit is made: this is for callers that have
 // made one, and they owe that the tables pass.
-pub fn save_unaudited(h: Header, shelves: &[u16], items: &[u16], out: &mut [u8]) -> Saving
+pub fn save_unaudited(
+    h: Header,
+    shelves: &[u16],
+    items: &[u16],
+    out: &mut [u8],
+) -> Result<u32, Refusal>
     requires { Passes h shelves.now items.now }
     ensures { Saves h shelves.now items.now out.old result out.new }
 {
     let z = image_sizes::sizes_of(h);
     if out.len() < z.end {
-        return Saving::Refused(refusal::TOO_SHORT);
+        return Err(Refusal::TooShort);
     }
     write_image(h, z, shelves, items, out);
-    Saving::Saved(z.end as u32)
+    Ok(z.end as u32)
 }
 
 // The same for any header and tables, after the audit.
-pub fn save(h: Header, shelves: &[u16], items: &[u16], out: &mut [u8]) -> Saving
+pub fn save(h: Header, shelves: &[u16], items: &[u16], out: &mut [u8]) -> Result<u32, Refusal>
     ensures { Saves h shelves.now items.now out.old result out.new }
 {
     if !audit::passes(h, shelves, items) {
-        return Saving::Refused(refusal::AUDIT);
+        return Err(Refusal::Audit);
     }
     save_unaudited(h, shelves, items, out)
 }

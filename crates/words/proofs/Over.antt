@@ -1,10 +1,9 @@
 -- A list written over element by element: the first i elements are the new ones, the rest the old. And words that are summed, or or-ed, one by one.
 -- Assumes nothing.
 use Rattle.std.specs.Prelude.{◌+◌, ◌*◌, ◌/◌, ◌%◌, ◌<◌, ◌≤◌, ◌≡◌, ◌++◌, ◌∷◌}
-use Rattle.numbers.specs.Library.{ℕ, zero, suc, refl, sym, ap, ◌∙◌, List, [], append_assoc, append-nil, length, get_or, set, take, drop}
+use Rattle.numbers.specs.Library.{ℕ, zero, suc, refl, sym, ap, ◌∙◌, List, [], append_assoc, length, get_or, set, take, drop}
 use Rattle.numbers.specs.Library.{arith, add-one, drop-cons, take-suc, take_all, length-take-le, length-set, eqb, eqb-true, eq-eqb}
 use lib.Bits.{bit_or, and_le_l, and_le_r, or_add_and}
-use lib.ListN.{drop_of_length-le}
 use lib.Seq.{set_at}
 use Rattle.numbers.specs.Prelude.{Decides}
 use Rattle.image_form.specs.Bytes.{bytes_of, total}
@@ -29,10 +28,6 @@ module _ {old new : List ℕ} where
         is = rw (o.is, e, add-one, drop-cons old i 0, take-suc new i 0, append_assoc) (set_at (take i new) (get_or old i 0) (drop (suc i) old) (get_or new i 0) i before);
       }
 
-  pub over_all : {i : ℕ} {now : List ℕ} → length old ≤ i → Over old new i now → now ≡ new
-  over_all {i} {now} b o =
-      o.is ∙ rw (take_all i new (omega (arith, o.as_long)), drop_of_length-le old {i = i} b) (append-nil new)
-
 -- ---- the two bytes of a word
 
 pub low_byte : (ws : List ℕ) (i : ℕ) → i < length ws → get_or (bytes_of ws) (2 * i) 0 ≡ get_or ws i 0 % 256
@@ -49,11 +44,12 @@ high_byte (w ∷ ws) (suc i) b = let e : 2 * suc i + 1 ≡ suc (suc (2 * i + 1))
 
 -- both bytes of a word written
 pub over_word : {old : List ℕ} (ws : List ℕ) {now : List ℕ} (i : ℕ) → i < length ws → Over old (bytes_of ws) (2 * i) now
-    → Over old (bytes_of ws) (2 * (i + 1)) (set (set now (2 * i) (get_or ws i 0 % 256)) (2 * i + 1) (get_or ws i 0 / 256))
-over_word {old} ws {now} i b o =
+    → (low : ℕ) → low ≡ get_or ws i 0 % 256 → (high : ℕ) → high ≡ get_or ws i 0 / 256
+    → Over old (bytes_of ws) (2 * (i + 1)) (set (set now (2 * i) low) (2 * i + 1) high)
+over_word {old} ws {now} i b o low l high h =
     let room : 2 * i + 1 < length old = omega (arith, o.as_long, length_bytes ws) in
     let e : 2 * (i + 1) ≡ 2 * i + 1 + 1 = omega arith in
-    rw e (over_next room (over_next (omega arith) o (get_or ws i 0 % 256) (sym (low_byte ws i b))) (get_or ws i 0 / 256) (sym (high_byte ws i b)))
+    rw e (over_next room (over_next (omega arith) o low (l ∙ sym (low_byte ws i b))) high (h ∙ sym (high_byte ws i b)))
 
 -- ---- the first i summed, and or-ed
 

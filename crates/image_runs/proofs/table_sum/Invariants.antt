@@ -1,9 +1,6 @@
 -- `table_sum`: the sum stays below 65521. Assumes nothing.
-use Rattle.std.proofs.Common.{length, ◌-◌, ◌<◌, ◌≤◌}
+use Rattle.std.proofs.Common.{◌<◌}
 use Rattle.image_runs.proofs.table_sum.Given as goal
 
-abbrev pub invariant-loop-i : goal.invariant-loop-i
-invariant-loop-i l = (l.i ≤ length l.table) × (l.sum < 65521)
-
-abbrev pub decreases-loop-i : goal.decreases-loop-i
-decreases-loop-i l = length l.table - l.i
+abbrev pub invariant-loop-number : goal.invariant-loop-number
+invariant-loop-number l = l.sum < 65521

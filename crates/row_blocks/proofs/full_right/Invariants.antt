@@ -1,11 +1,8 @@
 -- `full_right`: no block, or the blocks so far are right.
-use Rattle.std.specs.Prelude.{◌≤◌, ◌*◌, ◌-◌}
+use Rattle.std.specs.Prelude.{◌*◌}
 use Rattle.image_form.specs.Bytes.{words_of}
 use Rattle.row_blocks.specs.Layout.{AllRight}
 use Rattle.row_blocks.proofs.full_right.Given as goal
 
 abbrev pub invariant-loop-b : goal.invariant-loop-b
-invariant-loop-b l = (l.b ≤ l.full) × AllRight l.k (l.full * l.k.most) l.first l.b (words_of l.image)
-
-abbrev pub decreases-loop-b : goal.decreases-loop-b
-decreases-loop-b l = l.full - l.b
+invariant-loop-b l = AllRight l.k (l.full * l.k.most) l.first l.b (words_of l.image)

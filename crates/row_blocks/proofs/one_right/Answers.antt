@@ -5,4 +5,4 @@ use Rattle.row_blocks.proofs.one_right.Goals as goal
 
 pub returns : goal.returns
 unfolding RightAt
-returns c = rw (words_of-block c.args.image.now c.args.b) at c.block_right.ensures
+returns c = rw (words_of-block c.args.image.now c.args.b, c.heading-heading.ensures) at c.block_right.ensures

@@ -4,11 +4,10 @@ use Rattle.words.proofs.Over.{ored_none, ored_next, ored_all}
 use Rattle.words.proofs.all_zero.Goals as goal
 
 pub loop-i-init : goal.loop-i-init
-loop-i-init c = (omega arith, ored_none _)
+loop-i-init c = ored_none _
 
 pub loop-i-preserved : goal.loop-i-preserved
-loop-i-preserved c =
-    (omega arith, ored_next c.loop-i.invariant.1 (omega (arith, length-words c.args.bytes.now)) _ c.word-any.ensures)
+loop-i-preserved c = ored_next c.loop-i.invariant (omega (arith, length-words c.args.bytes.now)) _ c.word-any.ensures
 
 pub returns : goal.returns
-returns c = ored_all c.loop-i.invariant.1 (omega (arith, length-words c.args.bytes.now))
+returns c = ored_all c.loop-i.invariant (omega (arith, length-words c.args.bytes.now))

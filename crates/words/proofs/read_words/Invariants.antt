@@ -1,12 +1,7 @@
 -- `read_words`: so far the first numbers are the first words.
-use Rattle.std.specs.Prelude.{◌≤◌, ◌-◌}
-use Rattle.numbers.specs.Library.{length}
 use Rattle.image_form.specs.Bytes.{words_of}
 use Rattle.words.proofs.Over.{Over}
 use Rattle.words.proofs.read_words.Given as goal
 
 abbrev pub invariant-loop-i : goal.invariant-loop-i
-invariant-loop-i l = (l.i ≤ length l.initial.numbers) × Over l.initial.numbers (words_of l.bytes) l.i l.numbers
-
-abbrev pub decreases-loop-i : goal.decreases-loop-i
-decreases-loop-i l = length l.initial.numbers - l.i
+invariant-loop-i l = Over l.initial.numbers (words_of l.bytes) l.i l.numbers

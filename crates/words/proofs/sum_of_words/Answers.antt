@@ -1,14 +1,14 @@
-use Rattle.numbers.specs.Library.{arith}
+use Rattle.numbers.specs.Library.{◌∙◌, arith}
 use Rattle.image_form.proofs.Words.{length-words}
 use Rattle.words.proofs.Over.{summed_none, summed_next, summed_all}
 use Rattle.words.proofs.sum_of_words.Goals as goal
 
 pub loop-i-init : goal.loop-i-init
-loop-i-init c = (omega arith, summed_none _)
+loop-i-init c = summed_none _
 
 pub loop-i-preserved : goal.loop-i-preserved
 loop-i-preserved c =
-    (omega arith, summed_next c.loop-i.invariant.1 (omega (arith, length-words c.args.bytes.now)) _ c.word.ensures (omega arith))
+    summed_next c.loop-i.invariant (omega (arith, length-words c.args.bytes.now)) _ (c.from-sum.ensures ∙ c.word.ensures) (omega arith)
 
 pub returns : goal.returns
-returns c = summed_all c.loop-i.invariant.1 (omega (arith, length-words c.args.bytes.now))
+returns c = summed_all c.loop-i.invariant (omega (arith, length-words c.args.bytes.now))

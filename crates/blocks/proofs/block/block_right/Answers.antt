@@ -4,19 +4,19 @@ use Rattle.blocks.proofs.Judged.{unused_decides, wrong_heading, wrong_unused, la
 use Rattle.numbers.specs.Library.{ap, not}
 use Rattle.blocks.proofs.block.block_right.Goals as goal
 
-pub returns-then-not-heading_right : goal.returns-then-not-heading_right
-returns-then-not-heading_right c =
-    wrong_heading _ c.requires.0 _ _ _ _ c.requires.2 (denied c.heading_right.ensures (ap not c.if-not-heading_right.true))
+pub returns-then-not-is_of : goal.returns-then-not-is_of
+returns-then-not-is_of c =
+    wrong_heading _ c.requires.0 _ _ _ _ c.requires.1 (denied c.is_of.ensures (ap not c.if-not-is_of.true))
 
 pub returns-then-not-all_zero : goal.returns-then-not-all_zero
 returns-then-not-all_zero c =
-    wrong_unused _ c.requires.0 _ _ _ _ c.requires.2 (denied (unused_decides _ c.requires.0 _ c.requires.2 c.all_zero.ensures) (ap not c.if-not-all_zero.true))
+    wrong_unused _ c.requires.0 _ _ _ _ c.requires.1 (denied (unused_decides _ c.requires.0 _ c.requires.1 c.all_zero.ensures) (ap not c.if-not-all_zero.true))
 
 pub check_right-requires : goal.check_right-requires
 check_right-requires c =
-    (c.requires.0, c.requires.2, allowed (unused_decides _ c.requires.0 _ c.requires.2 c.all_zero.ensures) (ap not c.if-not-all_zero.false))
+    (c.requires.0, c.requires.1, allowed (unused_decides _ c.requires.0 _ c.requires.1 c.all_zero.ensures) (ap not c.if-not-all_zero.false))
 
 pub returns : goal.returns
 returns c =
-    last_of_block _ c.requires.0 _ _ _ _ c.requires.2 (allowed c.heading_right.ensures (ap not c.if-not-heading_right.false))
-    (allowed (unused_decides _ c.requires.0 _ c.requires.2 c.all_zero.ensures) (ap not c.if-not-all_zero.false)) c.check_right.ensures
+    last_of_block _ c.requires.0 _ _ _ _ c.requires.1 (allowed c.is_of.ensures (ap not c.if-not-is_of.false))
+    (allowed (unused_decides _ c.requires.0 _ c.requires.1 c.all_zero.ensures) (ap not c.if-not-all_zero.false)) c.check_right.ensures
