@@ -30,13 +30,8 @@ pub record Obeys (S I : List ℕ) (h' : Header) (S' I' : List ℕ) : Type 0 wher
 
 -- ---- laws
 
--- what is kept is no more than 81 bytes
-pub kept_short : (line : List ℕ) (have : ℕ) → have ≤ 81 → take have line ≡ short (take have line)
-unfolding short
-kept_short line have h = sym (take_all 81 (take have line) (omega (arith, length-take have line)))
-
-pub answered_none : (line : List ℕ) (have : ℕ) → have ≤ 81 → (s : State) → Answered (take have line) [] s s (take have line)
-answered_none line have h s = record { text = []; feeds = feeds_none (take have line) s (kept_short line have h) }
+pub answered_none : (kept : List ℕ) → short kept ≡ kept → (s : State) → Answered kept [] s s kept
+answered_none kept h s = record { text = []; feeds = feeds_none kept s (sym h) }
 
 -- what stands after the first n bytes of a piece, as it is lent
 abbrev pub after : ℕ → List ℕ → List ℕ
@@ -52,8 +47,8 @@ pub record Pending (kept fed : List ℕ) (s s' : State) (kept' out : List ℕ) (
   pub handed : List ℕ
   pub rest : text ≡ handed ++ take filled out
 
-pub pending_none : (line : List ℕ) (have : ℕ) → have ≤ 81 → (s : State) (out : List ℕ) → Pending (take have line) [] s s (take have line) out 0
-pending_none line have h s out = record { text = []; feeds = feeds_none (take have line) s (kept_short line have h); handed = []; rest = refl }
+pub pending_none : (kept : List ℕ) → short kept ≡ kept → (s : State) (out : List ℕ) → Pending kept [] s s kept out 0
+pending_none kept h s out = record { text = []; feeds = feeds_none kept s (sym h); handed = []; rest = refl }
 
 -- an answer that has room follows the others in the output
 put-after : {out : List ℕ} {at : ℕ} {text out' : List ℕ} {end : ℕ} → Puts out at text out' end → at + length text ≤ length out → take end out' ≡ take at out ++ text
@@ -68,14 +63,14 @@ unfolding items
 few_rows I e = rw (rows_are items I) (omega arith)
 
 -- the first n bytes of a piece, and then some more
-pub pending_more : (piece : List ℕ) (n : ℕ) (r : Fed) {k : List ℕ} {s m : State} {k₁ out : List ℕ} {filled : ℕ} {s' : State} {line' out' : List ℕ}
-    → Pending k (take n piece) s m k₁ out filled → FeedsPart k₁ (after n piece) out filled m s' r line' out'
-    → length m.items ≡ 18432 → filled + 79911 ≤ length out → Pending k (take (n + r.taken) piece) s s' (take r.have line') out' r.filled
-pending_more piece n r {k} {s} {m} {k₁} {out} {filled} {s'} {line'} {out'} a f size room =
+pub pending_more : (piece : List ℕ) (n : ℕ) (r : Fed) {k : List ℕ} {s m : State} {k₁ out : List ℕ} {filled : ℕ} {s' : State} {k₂ out' : List ℕ}
+    → Pending k (take n piece) s m k₁ out filled → FeedsPart k₁ (after n piece) out filled m s' r k₂ out'
+    → length m.items ≡ 18432 → filled + 79911 ≤ length out → Pending k (take (n + r.taken) piece) s s' k₂ out' r.filled
+pending_more piece n r {k} {s} {m} {k₁} {out} {filled} {s'} {k₂} {out'} a f size room =
     let short = f.short (few_rows m.items size) in
     record {
       text = a.text ++ f.text;
-      feeds = subst (λ (p : List ℕ). Feeds k p s s' (a.text ++ f.text) (take r.have line'))
+      feeds = subst (λ (p : List ℕ). Feeds k p s s' (a.text ++ f.text) k₂)
           (ap (λ (l : List ℕ). take n piece ++ take r.taken l) (after_is n piece) ∙ sym (take-add n r.taken piece)) (feeds_then a.feeds f.feeds);
       handed = a.handed;
       rest = ap (λ (t : List ℕ). t ++ f.text) a.rest ∙ append_assoc a.handed (take filled out) f.text
@@ -105,3 +100,8 @@ reads_then a b =
       bytes = a.bytes ++ b.bytes;
       answered = record { text = a.answered.text ++ b.answered.text; feeds = feeds_then a.answered.feeds b.answered.feeds };
     }
+
+-- from no atlas on, and with nothing kept
+pub obeyed : (kept : List ℕ) (h : Header) → kept ≡ [] → h ≡ zero_header → {S I : List ℕ} {h' : Header} {S' I' kept' : List ℕ}
+    → Reads kept (record { header = h; shelves = S; items = I }) (record { header = h'; shelves = S'; items = I' }) kept' → Obeys S I h' S' I'
+obeyed kept h e f r = record { kept = _; reads = rw (e, f) at r }

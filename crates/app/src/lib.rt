@@ -3,28 +3,25 @@
 // `feed` as it came, and the text of its answers is written. Where one of the two fails, a sentence on standard error says so, and the program ends.
 #![tactic(auto)]
 
-ghost use Rattle.std.specs.Prelude.{◌≡◌, ◌≤◌, length, take};
+ghost use Rattle.std.specs.Prelude.{◌≡◌, length};
+ghost use Rattle.input.specs.Line.{kept};
 ghost use Rattle.app.specs.Reads.{Answered, Reads, Obeys};
 
 use feed::feed;
+use input::Line;
+use rows::header;
 use rows::header::Header;
-use rows::{header, item, shelf};
+use rows::item::ItemRow;
+use rows::row::Row;
+use rows::shelf::ShelfRow;
 use std::io::Read;
 
 // The two tables: 512 rows for shelves and 2048 for items.
-const SHELVES: usize = 512 * shelf::NUMBERS;
+const SHELVES: usize = 512 * ShelfRow::NUMBERS;
 
-const ITEMS: usize = 2048 * item::NUMBERS;
+const ITEMS: usize = 2048 * ItemRow::NUMBERS;
 // Answers are written once fewer than 79,911 bytes are left: no answer has more (feed/proofs/Longest).
 const FULL: usize = 51161;
-
-// What is kept from read to read: the header, the bytes kept of the line, and whether to read on.
-#[derive(Clone, Copy)]
-struct Turned {
-    header: Header,
-    have: usize,
-    more: bool,
-}
 
 // A sentence on standard error, where one can be written.
 fn complain(rt: HostRuntime, sentence: &[u8]) {
@@ -43,116 +40,84 @@ fn hand_on<W: Print>(rt: HostRuntime, to: &W, well: bool, text: &[u8]) -> bool {
     false
 }
 
-// Answers the lines that end in `piece`, and writes the answers. It takes all of the piece, also where writing fails.
+// Answers the lines that end in `piece`, and writes the answers. It takes all of the piece, also where writing fails; says whether it was written.
 fn reply<W: Print>(
     rt: HostRuntime,
     to: &W,
-    header0: Header,
+    header: &mut Header,
     shelves: &mut [u16],
     items: &mut [u16],
-    line: &mut [u8],
-    have0: usize,
+    line: &mut Line,
     piece: &[u8],
-) -> Turned
-    requires line_len { length line.old ≡ 81 }
-    requires have0_bound { have0 ≤ 81 }
-    requires len { length items.old ≡ 18432 }
-    ensures have_bound { result.have ≤ 81 }
-    ensures answered { Answered (take have0 line.old) piece.now (record { header = header0; shelves = shelves.old; items = items.old }) (record { header = result.header; shelves = shelves.new; items = items.new }) (take result.have line.new) }
+) -> bool
+    requires { length items.old ≡ 18432 }
+    ensures { Answered (kept line.old) piece.now (record { header = header.old; shelves = shelves.old; items = items.old }) (record { header = header.new; shelves = shelves.new; items = items.new }) (kept line.new) }
 {
     let mut out = [0u8; 131072];
-    let mut header = header0;
-    let mut have = have0;
     let mut well = true;
     let mut taken: usize = 0;
     let mut filled: usize = 0;
     while taken < piece.len() {
-        let f = feed(
-            header,
+        let fed = feed(
+            *header,
             shelves,
             items,
             line,
-            have,
             &piece[taken..],
             &mut out,
             filled,
         );
-        let h = f.header;
-        header = h;
-        have = f.have;
-        taken += f.taken;
-        filled = f.filled;
+        *header = fed.header;
+        taken += fed.taken;
+        filled = fed.filled;
         if filled > FULL {
-            well = hand_on(rt, to, well, &out[0..filled]);
+            well = hand_on(rt, to, well, &out[..filled]);
             filled = 0;
         }
     }
-    let more = hand_on(rt, to, well, &out[0..filled]);
-    Turned { header, have, more }
+    hand_on(rt, to, well, &out[..filled])
 }
 
 // The end of the input: a last line without a newline is a line if it has a byte.
 fn finish<W: Print>(
     rt: HostRuntime,
     to: &W,
-    header: Header,
+    header: &mut Header,
     shelves: &mut [u16],
     items: &mut [u16],
-    line: &mut [u8],
-    have: usize,
-) -> Turned
-    requires line_len { length line.old ≡ 81 }
-    requires have_bound { have ≤ 81 }
-    requires len { length items.old ≡ 18432 }
-    ensures have_bound_2 { result.have ≤ 81 }
-    ensures reads { Reads (take have line.old) (record { header = header; shelves = shelves.old; items = items.old }) (record { header = result.header; shelves = shelves.new; items = items.new }) (take result.have line.new) }
+    line: &mut Line,
+)
+    requires { length items.old ≡ 18432 }
+    ensures { Reads (kept line.old) (record { header = header.old; shelves = shelves.old; items = items.old }) (record { header = header.new; shelves = shelves.new; items = items.new }) (kept line.new) }
 {
-    if have == 0 {
-        return Turned {
-            header,
-            have,
-            more: false,
-        };
+    if line.is_empty() {
+        return;
     }
-    let t = reply(rt, to, header, shelves, items, line, have, b"\n");
-    let h = t.header;
-    Turned {
-        header: h,
-        have: t.have,
-        more: false,
-    }
+    reply(rt, to, header, shelves, items, line, b"\n");
 }
 
-// Reads once, and answers what came.
+// Reads once, and answers what came; says whether to read on.
 fn turn<W: Print>(
     rt: HostRuntime,
     to: &W,
-    header: Header,
+    header: &mut Header,
     shelves: &mut [u16],
     items: &mut [u16],
-    line: &mut [u8],
-    have: usize,
-) -> Turned
-    requires line_len { length line.old ≡ 81 }
-    requires have_bound { have ≤ 81 }
-    requires len { length items.old ≡ 18432 }
-    ensures have_bound_2 { result.have ≤ 81 }
-    ensures reads { Reads (take have line.old) (record { header = header; shelves = shelves.old; items = items.old }) (record { header = result.header; shelves = shelves.new; items = items.new }) (take result.have line.new) }
+    line: &mut Line,
+) -> bool
+    requires { length items.old ≡ 18432 }
+    ensures { Reads (kept line.old) (record { header = header.old; shelves = shelves.old; items = items.old }) (record { header = header.new; shelves = shelves.new; items = items.new }) (kept line.new) }
 {
     let mut buf = [0u8; 65536];
-    let got = rt.stdin().read(&mut buf);
-    let Ok(n) = got else {
+    let Ok(n) = rt.stdin().read(&mut buf) else {
         complain(rt, b"script: standard input can't be read\n");
-        return Turned {
-            header,
-            have,
-            more: false,
-        };
+        return false;
     };
     if n == 0 {
-        return finish(rt, to, header, shelves, items, line, have);
+        finish(rt, to, header, shelves, items, line);
+        return false;
     }
-    reply(rt, to, header, shelves, items, line, have, &buf[0..n])
+    reply(rt, to, header, shelves, items, line, &buf[..n])
 }
 
 // Reads standard input to its end and obeys its lines, from no atlas on; the answers go to `to`. What it returns is the header of the last atlas, which lies in the tables.
@@ -160,18 +125,12 @@ pub fn obey<W: Print>(rt: HostRuntime, to: &W, shelves: &mut [u16], items: &mut 
     requires { length items.old ≡ 18432 }
     ensures { Obeys shelves.old items.old result shelves.new items.new }
 {
-    let mut line = [0u8; 81];
+    let mut line = Line::new();
     let mut header = header::no_header();
-    let mut have: usize = 0;
-    let mut turns = u64::MAX;
-    let mut more = true;
-    while turns > 0 && more {
-        turns -= 1;
-        let t = turn(rt, to, header, shelves, items, &mut line, have);
-        let h = t.header;
-        header = h;
-        have = t.have;
-        more = t.more;
+    for _ in 0..u64::MAX {
+        if !turn(rt, to, &mut header, shelves, items, &mut line) {
+            break;
+        }
     }
     header
 }

@@ -12,7 +12,7 @@ use Rattle.promises.specs.Prelude.{items_told}
 use Rattle.texts.specs.Answer.{text_of}
 use Rattle.texts.specs.Lines.{newlines, newlines_append, one_line, PutsLines}
 use Rattle.texts.specs.declared.answer.Answer.TheVariants as answer
-use Rattle.lines.specs.declared.command.Command.{Command}
+use Rattle.feed.specs.Answers.{Asked}
 use Rattle.script_rules.specs.Answers.{call_of, value_text, outcome_text}
 use Rattle.script_rules.specs.Listing.{item_lines, list_text}
 use Rattle.script_rules.specs.Step.{Doing}
@@ -91,7 +91,7 @@ few_without room call.Unreadable = refl
 
 -- ---- every answer
 
-pub few_lines : (h : Header) (S I : List ℕ) (h' : Header) (S' I' text : List ℕ) (c : Command) → Doing h S I c h' S' I' text → newlines text ≤ rows items I + 1
+pub few_lines : (h : Header) (S I : List ℕ) (h' : Header) (S' I' text : List ℕ) (c : Asked) → Doing h S I c h' S' I' text → newlines text ≤ rows items I + 1
 unfolding Doing Promise step
 few_lines h S I h' S' I' text c (fails n had) =
     omega (arith, ap newlines had.says, outcome_lines (told_of (step_without (room_in S I) (call_of c))), few_without (room_in S I) (call_of c))
@@ -99,6 +99,6 @@ few_lines h S I h' S' I' text c (passes p had) =
     omega (arith, ap newlines had.says, outcome_lines (told_of (step_in (room_in S I) (atlas_in h S I) (call_of c))), few_in h S I (call_of c) p)
 
 -- with 2048 item rows it has 79,911 bytes at most: 2049 lines of 39
-pub longest : (h : Header) (S I : List ℕ) (h' : Header) (S' I' : List ℕ) (c : Command) {out : List ℕ} {at : ℕ} {text out' : List ℕ} {end : ℕ}
+pub longest : (h : Header) (S I : List ℕ) (h' : Header) (S' I' : List ℕ) (c : Asked) {out : List ℕ} {at : ℕ} {text out' : List ℕ} {end : ℕ}
     → Doing h S I c h' S' I' text → PutsLines out at text out' end → rows items I ≤ 2048 → length text ≤ 79911
 longest h S I h' S' I' c {text = text} d p few = omega (arith, few_lines h S I h' S' I' text c d, p.short)

@@ -6,12 +6,11 @@ use Rattle.numbers.specs.Library.{ℕ, refl, ap, ◌∙◌, List, [], map, Optio
 use Rattle.rows.specs.Prelude.{rows_are, items, shelves, zero_header}
 use Rattle.rules.specs.Prelude.{Atlas, Room, room_in, Outcome, Call, Value, told_of, step, atlas_after, run}
 use Rattle.promises.proofs.Steps.{HoldsAtlas, StepsFrom, one_step}
-use Rattle.lines.specs.declared.command.Command.{Command}
 use Rattle.input.specs.Lines.{lines_of, left}
 use Rattle.script_rules.specs.Answers.{call_of, outcome_text}
 use Rattle.script_rules.specs.Step.{Texts, Doing}
 use Rattle.feed.specs.Answers as answered
-use Rattle.feed.specs.Answers.{State, Answer, Answers}
+use Rattle.feed.specs.Answers.{Asked, State, Answer, Answers}
 use Rattle.feed.specs.Feeds.{commands_of, Feeds, feeds_lines, feeds_last}
 
 -- what a state holds, and the room that it has
@@ -23,7 +22,7 @@ room_of s = room_in s.shelves s.items
 
 -- ---- one command
 
-pub answer_step : (c : Command) (s s' : State) (text : List ℕ) (a : Option Atlas) → InState s a → Answer c s s' text
+pub answer_step : (c : Asked) (s s' : State) (text : List ℕ) (a : Option Atlas) → InState s a → Answer c s s' text
     → StepsFrom (call_of c) (Texts text) (room_of s) a s'.header s'.shelves s'.items
 unfolding Doing
 answer_step c s s' text a held answer = one_step (call_of c) (Texts text) s.header s.shelves s.items s'.header s'.shelves s'.items a held answer
@@ -47,7 +46,7 @@ pub record Runs (room : Room) (a : Option Atlas) (calls : List Call) (text : Lis
   pub holds : InState s' (atlas_after_all room a calls)
   pub room_kept : room_of s' ≡ room
 
-pub answers_run : (room : Room) (cs : List Command) {s s' : State} {text : List ℕ} (a : Option Atlas) → room_of s ≡ room → InState s a → Answers cs s s' text
+pub answers_run : (room : Room) (cs : List Asked) {s s' : State} {text : List ℕ} (a : Option Atlas) → room_of s ≡ room → InState s a → Answers cs s s' text
     → Runs room a (map call_of cs) text s'
 unfolding text_of_all run atlas_after_all
 answers_run room [] a e held answered.none = record { says = refl; holds = held; room_kept = e }

@@ -4,12 +4,11 @@ use Rattle.std.specs.Prelude.{◌≡◌, ◌∷◌, ◌++◌}
 use Rattle.numbers.specs.Library.{ℕ, arith, refl, sym, ap, subst, ◌∙◌, List, [], map, append-nil}
 use Rattle.std.proofs.lemmas.List.{map-append}
 use Rattle.lines.specs.Line.{command_of}
-use Rattle.lines.specs.declared.command.Command.{Command}
 use Rattle.input.specs.Lines.{lines_of, ended, left, last, ended_append, left_append, lines_ended}
 use Rattle.input.specs.Kept.{short, ended_short, same_command, ended_kept, left_kept}
-use Rattle.feed.specs.Answers.{State, Answers, none, answers_then}
+use Rattle.feed.specs.Answers.{Asked, State, Answers, none, answers_then}
 
-abbrev pub commands_of : List (List ℕ) → List Command
+abbrev pub commands_of : List (List ℕ) → List Asked
 commands_of = map command_of
 
 -- `kept` is kept of the line before the piece, and `kept'` after it; the answers' text is `text`
@@ -37,9 +36,9 @@ feeds_then {k} {p} {s} {m} {s'} {t} {k₁} {q} {u} {k₂} a b =
     let same : commands_of (ended k₁ q) ≡ commands_of (ended (left k p) q) =
     ap (λ (l : List ℕ). commands_of (ended l q)) a.formed ∙ commands_kept (left k p) q in
     let all : commands_of (ended k (p ++ q)) ≡ commands_of (ended k p) ++ commands_of (ended k₁ q) =
-    ap commands_of (ended_append k p q) ∙ map-append command_of (ended k p) (ended (left k p) q) ∙ ap (λ (cs : List Command). commands_of (ended k p) ++ cs) (sym same) in
+    ap commands_of (ended_append k p q) ∙ map-append command_of (ended k p) (ended (left k p) q) ∙ ap (λ (cs : List Asked). commands_of (ended k p) ++ cs) (sym same) in
     record {
-      answers = subst (λ (cs : List Command). Answers cs s s' (t ++ u)) (sym all) (answers_then a.answers b.answers);
+      answers = subst (λ (cs : List Asked). Answers cs s s' (t ++ u)) (sym all) (answers_then a.answers b.answers);
       formed = b.formed ∙ ap (λ (l : List ℕ). short (left l q)) a.formed ∙ left_kept (left k p) q ∙ ap short (sym (left_append k p q));
     }
 

@@ -1,3 +1,4 @@
 pub mod Kept
+pub mod Line
 pub mod Lines
 pub mod Takes

@@ -1,19 +1,20 @@
 -- What is taken of a piece of the input: the rest of one line, as far as the piece has it. Assumes nothing.
-use Rattle.std.specs.Prelude.{◌≤◌, ◌≡◌, ◌∷◌}
-use Rattle.numbers.specs.Library.{ℕ, true, false, List, [], length, take}
-use Rattle.numbers.specs.Prelude.{pick}
+use Rattle.std.specs.Prelude.{◌≤◌, ◌≡◌, ◌∷◌, Option, Some, None}
+use Rattle.numbers.specs.Library.{ℕ, List, [], length, take}
 use Rattle.input.specs.Lines.{left}
 use Rattle.input.specs.Kept.{short, ended_short}
-use Rattle.input.specs.declared.Taken.{Taken}
 
--- `kept` was kept of the line before the piece, and `line` holds what is kept after it
-pub record Takes (kept piece line : List ℕ) (r : Taken) : Type 0 where
-  pub room : r.have ≤ 81
-  pub within : r.taken ≤ length piece
-  -- a line has ended in what was taken, or none has
-  pub lines : ended_short kept (take r.taken piece) ≡ pick r.ended (take r.have line ∷ []) []
-  -- what is kept after it
-  pub formed : short (left kept (take r.taken piece)) ≡ pick r.ended [] (take r.have line)
-  -- all of the piece is taken where no line ends in it, and something where one does
-  pub all : r.ended ≡ false → r.taken ≡ length piece
-  pub some : r.ended ≡ true → 1 ≤ r.taken
+-- `kept` was kept of the line before these bytes. They end it, and as `line` it is kept; nothing stands after it.
+pub record Ends (kept bytes line : List ℕ) : Type 0 where
+  pub ends : ended_short kept bytes ≡ line ∷ []
+  pub nothing : short (left kept bytes) ≡ []
+
+-- They end no line, and `line` is kept after them.
+pub record GoesOn (kept bytes line : List ℕ) : Type 0 where
+  pub none : ended_short kept bytes ≡ []
+  pub formed : short (left kept bytes) ≡ line
+
+-- the first n bytes of the piece end a line, or all of them end none
+abbrev pub Takes : List ℕ → List ℕ → List ℕ → Option ℕ → Type 0
+Takes kept piece line (Some n) = Ends kept (take n piece) line × (1 ≤ n) × (n ≤ length piece)
+Takes kept piece line None = GoesOn kept piece line

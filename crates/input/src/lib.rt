@@ -1,46 +1,74 @@
 // Standard input as lines, which come in pieces of any length. Nothing is read or written here.
 #![tactic(auto)]
 
-ghost use Rattle.std.specs.Prelude.{◌≡◌, ◌≤◌, length, take};
-ghost use Rattle.input.specs.Takes.{Takes};
+ghost use Rattle.std.specs.Prelude.{◌≤◌};
 
 // The most bytes of a line, its newline not counted. One more is kept, which is enough to say that a line is too long.
 const LONGEST: usize = 80;
 
-// The bytes kept in `line`, the bytes taken of the piece, and whether they end a line.
-#[derive(Clone, Copy)]
-pub struct Taken {
-    pub have: usize,
-    pub taken: usize,
-    pub ended: bool,
+// What is kept of a line: its first bytes.
+#[derive(Drop)]
+pub struct Line {
+    bytes: [u8; 81],
+    have: usize,
+    ghost room: { have ≤ 81 },
 }
 
-// Takes the bytes of `piece` up to a newline, and the newline; all of them where there is none. Of the line `have0` bytes are kept already.
-pub fn take_line(line: &mut [u8], have0: usize, piece: &[u8]) -> Taken
-    requires line_len { length line.old ≡ 81 }
-    requires have0_bound { have0 ≤ 81 }
-    ensures { Takes (take have0 line.old) piece.now line.new result }
-{
-    let mut have = have0;
-    let mut taken: usize = 0;
-    while taken < piece.len() {
-        let b = piece[taken];
-        taken += 1;
-        if b == b'\n' {
-            return Taken {
-                have,
-                taken,
-                ended: true,
-            };
-        }
-        if have <= LONGEST {
-            line[have] = b;
-            have += 1;
+impl Line {
+    ghost use Rattle.std.specs.Prelude.{◌≡◌, ◌∷◌, ◌++◌, [], length, IsTrue, ◌↔◌};
+    ghost use Rattle.input.specs.Kept.{short};
+    ghost use Rattle.input.specs.Line.{kept};
+    ghost use Rattle.input.specs.Takes.{Takes};
+
+    // A line of which nothing was read.
+    pub fn new() -> Line
+        ensures { kept result ≡ [] }
+    {
+        Line {
+            bytes: [0; 81],
+            have: 0,
         }
     }
-    Taken {
-        have,
-        taken,
-        ended: false,
+
+    pub fn is_empty(&self) -> bool
+        ensures { IsTrue result ↔ (kept self.now ≡ []) }
+    {
+        self.have == 0
+    }
+
+    pub fn bytes(&self) -> &[u8]
+        ensures { result.now ≡ kept self.now }
+    {
+        &self.bytes[..self.have]
+    }
+
+    pub fn clear(&mut self)
+        ensures { kept self.new ≡ [] }
+    {
+        self.have = 0;
+    }
+
+    // Keeps one byte more, where there is room for it.
+    fn push(&mut self, byte: u8)
+        ensures { kept self.new ≡ short (kept self.old ++ byte ∷ []) }
+    {
+        if self.have <= LONGEST {
+            self.bytes[self.have] = byte;
+            self.have += 1;
+        }
+    }
+
+    // Takes the bytes of `piece` up to a newline, and the newline, and says how many these are; takes all of them, and says None, where there is no
+    // newline.
+    pub fn take(&mut self, piece: &[u8]) -> Option<usize>
+        ensures { Takes (kept self.old) piece.now (kept self.new) result }
+    {
+        for (before, &byte) in piece.iter().enumerate() {
+            if byte == b'\n' {
+                return Some(before + 1);
+            }
+            self.push(byte);
+        }
+        None
     }
 }

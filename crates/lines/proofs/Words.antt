@@ -1,49 +1,36 @@
 -- The laws of words and commands that the proofs of reading a line cite. Assumes nothing.
-use Rattle.std.specs.Prelude.{◌+◌, ◌-◌, ◌≤◌, ◌<◌, ◌≡◌, ◌∷◌, ◌++◌}
+use Rattle.std.specs.Prelude.{◌+◌, ◌-◌, ◌≤◌, ◌<◌, ◌≡◌, ◌∷◌, ◌++◌, ◌==◌, Option, Some, None, nat_lt, not, cond, position}
+use Rattle.std.specs.List.{prefix_len, position_or_len}
+use Rattle.std.proofs.lemmas.Option.{cond_some}
 use Rattle.numbers.specs.Library.{ℕ, suc, arith, add-one, refl, sym, ap, ◌∙◌, Bool, true, false, and-false, List, []}
-use Rattle.numbers.specs.Library.{append_assoc, append-nil, length, get_or, take, drop, length-append, drop-cons, length-take-le, take_all, eqb, ℤ, pos, w32, to_z}
-use Rattle.numbers.specs.Library.{of_z, to_z-of_z, eq-eqb, ne_eqb, le-leb, lt-leb}
+use Rattle.numbers.specs.Library.{append_assoc, append-nil, length, get_or, take, drop, length-append, drop-cons, eqb, ℤ, w32, to_z}
+use Rattle.numbers.specs.Library.{of_z, to_z-of_z, ne_eqb, le-leb, lt-leb, ltb-false}
 use lib.ListN.{drop_of_length-le}
 use lib.Seq.{drop-drop, get_or-take}
 use lib.Signed.{mag}
 use Rattle.numbers.specs.Prelude.{pick, one_to}
 use Rattle.numerals.specs.Numeral.{number_of}
-use Rattle.lines.specs.Line.{words, on_first, first_word, Numbers, none, all, on_numbers, with_number, numbers_of, at, create_args, of_six, of_two, of_none}
+use Rattle.lines.specs.Line.{words, on_first, first_word, on_numbers, with_number, numbers_of, at, create_args, of_six, of_two, of_none}
 use Rattle.lines.specs.Line.{of_letter, of_numbers, of_words, said_by, command_of}
-use Rattle.numerals.specs.declared.Number.{Number}
-use Rattle.numerals.specs.declared.Number.TheVariants.{NoNumber, Is}
-use Rattle.lines.specs.declared.command.Command.TheVariants.{Bad}
 
 -- ---- by the count of numbers
 
-at_take : (v : List ℤ) (n i : ℕ) → i < n → at (take n v) i ≡ at v i
-at_take v n i h = get_or-take n v i (pos 0) h
-
-pub by_other : (c : ℕ) (zs : List ℤ) → (length zs ≡ 6 → ⊥) → (length zs ≡ 2 → ⊥) → (length zs ≡ 0 → ⊥) → of_letter c zs ≡ Bad
-unfolding of_letter
-by_other c zs a b d = simp (ne_eqb _ _ a, ne_eqb _ _ b, ne_eqb _ _ d)
-
--- the first n of six numbers
-module _ (c : ℕ) (v : List ℤ) (n : ℕ) (six : length v ≡ 6) where
-  pub by_six : 6 ≤ n → of_letter c (take n v) ≡ of_six c (create_args v)
+module _ (c : ℕ) (zs : List ℤ) where
+  pub by_six : length zs ≡ 6 → of_letter c zs ≡ of_six c (create_args zs)
   unfolding of_letter
-  by_six h = rw (take_all n v (omega arith), six)
+  by_six e = simp e
 
-  count : n ≤ 6 → length (take n v) ≡ n
-  count h = length-take-le n v (omega arith)
-
-  pub by_two : n ≡ 2 → of_letter c (take n v) ≡ of_two c (at v 0) (at v 1)
+  pub by_two : length zs ≡ 2 → of_letter c zs ≡ of_two c (at zs 0) (at zs 1)
   unfolding of_letter
-  by_two e = simp (count (omega arith), eq-eqb n 2 e, ne_eqb n 6 (omega arith), at_take v n 0 (omega arith), at_take v n 1 (omega arith))
+  by_two e = simp e
 
-  pub by_none : n ≡ 0 → of_letter c (take n v) ≡ of_none c
+  pub by_none : length zs ≡ 0 → of_letter c zs ≡ of_none c
   unfolding of_letter
-  by_none e = rw e
+  by_none e = simp e
 
-  pub by_count : n < 6 → (n ≡ 2 → ⊥) → (n ≡ 0 → ⊥) → of_letter c (take n v) ≡ Bad
-  by_count h a b =
-      let k : length (take n v) ≡ n = count (omega arith) in
-      by_other c (take n v) (λ e. omega arith) (λ e. a (sym k ∙ e)) (λ e. b (sym k ∙ e))
+  pub by_other : (length zs ≡ 6 → ⊥) → (length zs ≡ 2 → ⊥) → (length zs ≡ 0 → ⊥) → of_letter c zs ≡ None
+  unfolding of_letter
+  by_other a b d = simp (ne_eqb _ _ a, ne_eqb _ _ b, ne_eqb _ _ d)
 
 -- a signed number that went through its bits
 pub back : (z : ℤ) → mag z < 2147483648 → to_z w32 (of_z w32 z) ≡ z
@@ -51,17 +38,32 @@ back z h = to_z-of_z {w = w32} {z = z} (record { sfits = h })
 
 -- ---- a word's end
 
-pub word_stop : (l : List ℕ) (e : ℕ) → e < length l → eqb (get_or l e 0) 32 ≡ true → length (first_word (drop e l)) ≡ 0
+spaces_to : (l : List ℕ) → position_or_len (λ byte. byte == 32) l ≡ length (first_word l)
 unfolding first_word
-word_stop l e h q = simp (drop-cons l e 0 h, q)
+spaces_to [] = refl
+spaces_to (c ∷ cs) = go (eqb c 32) (spaces_to cs) where
+  go : (b : Bool) → prefix_len (λ byte. not (byte == 32)) cs ≡ length (first_word cs)
+      → cond (not b) (1 + prefix_len (λ byte. not (byte == 32)) cs) 0 ≡ length (pick b [] (c ∷ first_word cs))
+  go true h = refl
+  go false h = omega (arith, h)
 
-pub word_step : (l : List ℕ) (e : ℕ) → e < length l → eqb (get_or l e 0) 32 ≡ false → length (first_word (drop e l)) ≡ suc (length (first_word (drop (e + 1) l)))
+first_within : (l : List ℕ) → length (first_word l) ≤ length l
 unfolding first_word
-word_step l e h q = simp (drop-cons l e 0 h, q, add-one)
+first_within [] = omega arith
+first_within (c ∷ cs) = go (eqb c 32) (first_within cs) where
+  go : (b : Bool) → length (first_word cs) ≤ length cs → length (pick b [] (c ∷ first_word cs)) ≤ suc (length cs)
+  go true h = omega arith
+  go false h = omega (arith, h)
 
-pub word_over : (l : List ℕ) (e : ℕ) → length l ≤ e → length (first_word (drop e l)) ≡ 0
-unfolding first_word
-word_over l e h = simp (drop_of_length-le l h)
+pub space_found : (l : List ℕ) (n : ℕ) → Some n ≡ position (λ byte. byte == 32) l → length (first_word l) ≡ n
+space_found l n e = sym (spaces_to l) ∙ (cond_some _ _ _ (sym e)).1
+
+pub no_space : (l : List ℕ) → None ≡ position (λ byte. byte == 32) l → length (first_word l) ≡ length l
+no_space l e = go (nat_lt (position_or_len (λ byte. byte == 32) l) (length l)) refl e where
+  go : (b : Bool) → nat_lt (position_or_len (λ byte. byte == 32) l) (length l) ≡ b
+      → None ≡ cond b (Some (position_or_len (λ byte. byte == 32) l)) None → length (first_word l) ≡ length l
+  go true t f = cc
+  go false t f = omega (arith, ltb-false _ _ t, spaces_to l, first_within l)
 
 -- ---- words
 
@@ -97,29 +99,29 @@ word_of l i e q = let s : e - i ≡ length (first_word (drop i l)) = omega arith
 -- ---- the command
 
 -- numbers read already, in front of those to come
-abbrev pub prefixed : List ℤ → Numbers → Numbers
-prefixed zs none = none
-prefixed zs (all ys) = all (zs ++ ys)
+abbrev pub prefixed : List ℤ → Option (List ℤ) → Option (List ℤ)
+prefixed zs None = None
+prefixed zs (Some ys) = Some (zs ++ ys)
 
-prefixed_nil : (ns : Numbers) → prefixed [] ns ≡ ns
-prefixed_nil none = refl
-prefixed_nil (all ys) = refl
+prefixed_nil : (ns : Option (List ℤ)) → prefixed [] ns ≡ ns
+prefixed_nil None = refl
+prefixed_nil (Some ys) = refl
 
-prefixed_more : (zs : List ℤ) (z : ℤ) (ns : Numbers) → prefixed zs (on_numbers z ns) ≡ prefixed (zs ++ (z ∷ [])) ns
-prefixed_more zs z none = refl
-prefixed_more zs z (all ys) = ap all (sym (append_assoc zs (z ∷ []) ys))
+prefixed_more : (zs : List ℤ) (z : ℤ) (ns : Option (List ℤ)) → prefixed zs (on_numbers z ns) ≡ prefixed (zs ++ (z ∷ [])) ns
+prefixed_more zs z None = refl
+prefixed_more zs z (Some ys) = ap Some (sym (append_assoc zs (z ∷ []) ys))
 
 words_one : (w : List ℕ) (ws : List (List ℕ)) → length w ≡ 1 → of_words (w ∷ ws) ≡ of_numbers (get_or w 0 0) (numbers_of ws)
 words_one [] ws h = absurd (omega arith)
 words_one (c ∷ []) ws h = refl
 words_one (c ∷ d ∷ ds) ws h = absurd (omega arith)
 
-words_bad : (w : List ℕ) (ws : List (List ℕ)) → (length w ≡ 1 → ⊥) → of_words (w ∷ ws) ≡ Bad
+words_bad : (w : List ℕ) (ws : List (List ℕ)) → (length w ≡ 1 → ⊥) → of_words (w ∷ ws) ≡ None
 words_bad [] ws h = refl
 words_bad (c ∷ []) ws h = absurd (h refl)
 words_bad (c ∷ d ∷ ds) ws h = refl
 
-pub said_bad : (l : List ℕ) → (length (first_word l) ≡ 1 → ⊥) → said_by l ≡ Bad
+pub said_bad : (l : List ℕ) → (length (first_word l) ≡ 1 → ⊥) → said_by l ≡ None
 unfolding said_by
 said_bad l h = ap of_words (words_first l) ∙ words_bad (first_word l) (tail_words (drop (length (first_word l)) l)) h
 
@@ -145,10 +147,10 @@ numbers_step l i e h q =
     ∙ ap (λ (k : List ℕ). with_number (number_of (first_word (drop (i + 1) l))) (numbers_of (tail_words k)))
     (drop-drop (length (first_word (drop (i + 1) l))) (i + 1) l ∙ ap (λ (k : ℕ). drop k l) (sym q))
 
-full_by : (c : ℕ) (zs : List ℤ) (n : Number) (ns : Numbers) → 6 ≤ length zs → of_numbers c (prefixed zs (with_number n ns)) ≡ Bad
-full_by c zs NoNumber ns h = refl
-full_by c zs (Is z) none h = refl
-full_by c zs (Is z) (all ys) h =
+full_by : (c : ℕ) (zs : List ℤ) (n : Option ℤ) (ns : Option (List ℤ)) → 6 ≤ length zs → of_numbers c (prefixed zs (with_number n ns)) ≡ None
+full_by c zs None ns h = refl
+full_by c zs (Some z) None h = refl
+full_by c zs (Some z) (Some ys) h =
     let n : 7 ≤ length (zs ++ z ∷ ys) = simp length-append (omega arith) in
     by_other c (zs ++ z ∷ ys) (λ e. omega arith) (λ e. omega arith) (λ e. omega arith)
 
@@ -166,30 +168,30 @@ module _ (l : List ℕ) (c : ℕ) (zs : List ℤ) (i : ℕ) (k : Claim l c zs i)
   claim_end h = k.says ∙ simp (drop_of_length-le l h, append-nil)
 
   -- at a seventh number
-  pub claim_full : i < length l → 6 ≤ length zs → said_by l ≡ Bad
+  pub claim_full : i < length l → 6 ≤ length zs → said_by l ≡ None
   claim_full h six =
       k.says
-      ∙ ap (λ (n : Numbers). of_numbers c (prefixed zs n)) (numbers_step l i _ h refl)
+      ∙ ap (λ (n : Option (List ℤ)). of_numbers c (prefixed zs n)) (numbers_step l i _ h refl)
       ∙ full_by c zs (number_of (first_word (drop (i + 1) l))) (numbers_of (tail_words (drop (i + 1 + length (first_word (drop (i + 1) l))) l))) six
 
   -- after a number, and at a word that is none
   pub claim_more : (e : ℕ) (z : ℤ) → i < length l → e ≡ i + 1 + length (first_word (drop (i + 1) l))
-      → number_of (first_word (drop (i + 1) l)) ≡ Is z → Claim l c (zs ++ (z ∷ [])) e
+      → number_of (first_word (drop (i + 1) l)) ≡ Some z → Claim l c (zs ++ (z ∷ [])) e
   claim_more e z h q n =
       record {
         says = k.says
-            ∙ ap (λ (m : Numbers). of_numbers c (prefixed zs m)) (numbers_step l i e h q ∙ ap (λ (w : Number). with_number w (numbers_of (tail_words (drop e l)))) n)
+            ∙ ap (λ (m : Option (List ℤ)). of_numbers c (prefixed zs m)) (numbers_step l i e h q ∙ ap (λ (w : Option ℤ). with_number w (numbers_of (tail_words (drop e l)))) n)
             ∙ ap (of_numbers c) (prefixed_more zs z (numbers_of (tail_words (drop e l))));
       }
 
   pub claim_bad : (e : ℕ) → i < length l → e ≡ i + 1 + length (first_word (drop (i + 1) l))
-      → number_of (first_word (drop (i + 1) l)) ≡ NoNumber → said_by l ≡ Bad
+      → number_of (first_word (drop (i + 1) l)) ≡ None → said_by l ≡ None
   claim_bad e h q n =
-      k.says ∙ ap (λ (m : Numbers). of_numbers c (prefixed zs m)) (numbers_step l i e h q ∙ ap (λ (w : Number). with_number w (numbers_of (tail_words (drop e l)))) n)
+      k.says ∙ ap (λ (m : Option (List ℤ)). of_numbers c (prefixed zs m)) (numbers_step l i e h q ∙ ap (λ (w : Option ℤ). with_number w (numbers_of (tail_words (drop e l)))) n)
 
 -- ---- the length
 
-pub long_line : (l : List ℕ) → 80 < length l → command_of l ≡ Bad
+pub long_line : (l : List ℕ) → 80 < length l → command_of l ≡ None
 unfolding command_of one_to
 long_line l h = simp (lt-leb (length l) 80 h, and-false)
 

@@ -31,7 +31,6 @@ pub enum Change {
 
 #[derive(Clone, Copy)]
 pub enum Command {
-    Bad,
     Tell(Tell),
     Change(Change),
 }

@@ -2,11 +2,8 @@
 // Then it writes a table of answers, each kind with small numbers and with the largest.
 #![tactic(auto)]
 
-ghost use Rattle.std.specs.Prelude.{◌≤◌, length};
-
 use lines::command::{Change, Command, CreateArgs, Tell};
 use lines::read::read_line;
-use numbers::sides::natural_of;
 use rows::live::Live;
 use std::io;
 use std::io::Read;
@@ -29,29 +26,18 @@ const ANSWERS: [[u32; 4]; 12] = [
     [6, 8, 0, 0],
 ];
 
-// A number without its sign.
-fn magnitude(z: i32) -> u32 {
-    if z < 0 {
-        return (-(z as i64)) as u32;
-    }
-    natural_of(z)
-}
-
 fn put_signed(out: &mut [u8], at: usize, z: i32) -> usize {
-    let a = put_byte(out, at, b' ');
+    let mut end = put_byte(out, at, b' ');
     if z < 0 {
-        let b = put_byte(out, a, b'-');
-        return put_number(out, b, magnitude(z));
+        end = put_byte(out, end, b'-');
     }
-    put_number(out, a, magnitude(z))
+    put_number(out, end, z.unsigned_abs())
 }
 
 fn put_words(out: &mut [u8], letter: u8, numbers: &[i32]) -> usize {
     let mut end = put_byte(out, 0, letter);
-    let mut i: usize = 0;
-    while i < numbers.len() {
-        end = put_signed(out, end, numbers[i]);
-        i += 1;
+    for &number in numbers {
+        end = put_signed(out, end, number);
     }
     put_byte(out, end, b'\n')
 }
@@ -97,11 +83,11 @@ fn put_change(out: &mut [u8], change: Change) -> usize {
     }
 }
 
-fn put_command(out: &mut [u8], command: Command) -> usize {
+fn put_command(out: &mut [u8], command: Option<Command>) -> usize {
     match command {
-        Command::Bad => put_text(out, 0, b"bad\n"),
-        Command::Tell(tell) => put_tell(out, tell),
-        Command::Change(change) => put_change(out, change),
+        None => put_text(out, 0, b"bad\n"),
+        Some(Command::Tell(tell)) => put_tell(out, tell),
+        Some(Command::Change(change)) => put_change(out, change),
     }
 }
 
@@ -114,27 +100,9 @@ fn show(rt: HostRuntime, line: &[u8]) -> io::Result<()> {
     Ok(())
 }
 
-fn line_end(text: &[u8], from: usize) -> usize
-    requires { from ≤ length text.now }
-    ensures lower_bound { from ≤ result }
-    ensures upper_bound { result ≤ length text.now }
-{
-    let mut e = from;
-    while e < text.len() {
-        if text[e] == b'\n' {
-            return e;
-        }
-        e += 1;
-    }
-    e
-}
-
 fn show_lines(rt: HostRuntime, text: &[u8]) -> io::Result<()> {
-    let mut from: usize = 0;
-    while from < text.len() {
-        let end = line_end(text, from);
-        show(rt, &text[from..end])?;
-        from = end + 1;
+    for line in text.split_inclusive(|byte| *byte == b'\n') {
+        show(rt, line.strip_suffix(b"\n").unwrap_or(line))?;
     }
     Ok(())
 }
@@ -179,10 +147,8 @@ fn show_answer(rt: HostRuntime, answer: Answer) -> io::Result<()> {
 }
 
 fn show_answers(rt: HostRuntime) -> io::Result<()> {
-    let mut i: usize = 0;
-    while i < 12 {
-        show_answer(rt, answer_of(ANSWERS[i]))?;
-        i += 1;
+    for numbers in ANSWERS {
+        show_answer(rt, answer_of(numbers))?;
     }
     Ok(())
 }

@@ -1,14 +1,10 @@
 -- The laws of numerals that the proofs of reading them cite. Assumes nothing.
-use Rattle.std.specs.Prelude.{◌+◌, ◌-◌, ◌*◌, ◌≤◌, ◌<◌, ◌≡◌, ◌&&◌, ◌∷◌}
-use Rattle.numbers.specs.Library.{ℕ, zero, suc, arith, add-one, refl, ap, ◌∙◌, Bool, true, false, and-false, false≢true}
-use Rattle.numbers.specs.Library.{List, [], length, get_or, take, drop, drop-cons, take_all, leb, eqb, ℤ, pos, neg_ℤ, w32, w64, SFits, to_z, to_z-of_z, le-leb}
+use Rattle.std.specs.Prelude.{◌+◌, ◌-◌, ◌*◌, ◌≤◌, ◌<◌, ◌≡◌, ◌&&◌, ◌∷◌, Some, None}
+use Rattle.numbers.specs.Library.{ℕ, zero, suc, arith, add-one, refl, sym, Bool, true, false, and-false, false≢true}
+use Rattle.numbers.specs.Library.{List, [], length, get_or, take, drop, drop-cons, take_all, leb, eqb, ℤ, pos, neg_ℤ, le-leb}
 use Rattle.numbers.specs.Library.{lt-leb, leb-true}
-use lib.IntN.{◌-ℤ◌, +ℤ_idl}
-use mir.Facts.{sfits_widen, sfits_lit}
 use borrow.Author.Tests.{leb-false}
 use Rattle.numbers.specs.Prelude.{pick}
-use Rattle.numerals.specs.declared.Digits.TheVariants.{NoDigits, Worth}
-use Rattle.numerals.specs.declared.Number.TheVariants.{NoNumber, Is}
 use Rattle.numerals.specs.Numeral.{is_digit, all_digits, zero_first, is_numeral, value, fits32, signed, minus_first, after_first, number_of, digits_of}
 
 -- ---- a leading zero
@@ -72,46 +68,40 @@ end_value (c ∷ cs) (suc i) a h = end_value cs i a (omega arith)
 
 -- ---- the whole numeral
 
-pub none_empty : (w : List ℕ) → length w ≡ 0 → digits_of w ≡ NoDigits
+pub none_empty : (w : List ℕ) → length w ≡ 0 → digits_of w ≡ None
 unfolding digits_of is_numeral
 none_empty [] h = refl
 none_empty (c ∷ cs) h = absurd (omega arith)
 
-pub none_zero : (w : List ℕ) → zero_first w ≡ true → digits_of w ≡ NoDigits
+pub none_zero : (w : List ℕ) → zero_first w ≡ true → digits_of w ≡ None
 unfolding digits_of is_numeral
 none_zero [] h = refl
 none_zero (c ∷ cs) h = simp h
 
-pub none_other : (w : List ℕ) → all_digits w ≡ false → digits_of w ≡ NoDigits
+pub none_other : (w : List ℕ) → all_digits w ≡ false → digits_of w ≡ None
 unfolding digits_of is_numeral
 none_other [] h = refl
 none_other (c ∷ cs) h = simp (h, and-false)
 
-pub none_large : (w : List ℕ) → 2147483648 < value 0 w → digits_of w ≡ NoDigits
+pub none_large : (w : List ℕ) → 2147483648 < value 0 w → digits_of w ≡ None
 unfolding digits_of
 none_large w h = simp (lt-leb (value 0 w) 2147483648 h, and-false)
 
-pub some_worth : (w : List ℕ) → 0 < length w → zero_first w ≡ false → all_digits w ≡ true → value 0 w ≤ 2147483648 → digits_of w ≡ Worth (value 0 w)
+pub some_worth : (w : List ℕ) → 0 < length w → zero_first w ≡ false → all_digits w ≡ true → value 0 w ≤ 2147483648 → digits_of w ≡ Some (value 0 w)
 unfolding digits_of is_numeral
 some_worth [] n z d h = absurd (omega arith)
 some_worth (c ∷ cs) n z d h = simp (z, d, le-leb _ _ h)
 
 -- ---- the sign
 
-pub neg_fits : (v : ℕ) → v ≤ 2147483648 → SFits w32 (neg_ℤ (pos v))
-neg_fits zero h = sfits_lit tt
-neg_fits (suc n) h = record { sfits = omega arith }
-
-pub neg_wide : (v : ℕ) → v ≤ 2147483648 → SFits w64 (neg_ℤ (pos v))
-neg_wide v h = sfits_widen tt (neg_fits v h)
-
-pub neg_eq : (v : ℕ) → v ≤ 2147483648 → pos 0 -ℤ to_z w64 v ≡ neg_ℤ (pos v)
-neg_eq v h = ap (λ (z : ℤ). pos 0 -ℤ z) (to_z-of_z {w = w64} {z = pos v} (record { sfits = omega arith })) ∙ +ℤ_idl (neg_ℤ (pos v))
-
 pub after_drop : (w : List ℕ) → take (length w - 1) (drop 1 w) ≡ after_first w
 unfolding after_first
 after_drop [] = refl
 after_drop (c ∷ cs) = take_all (suc (length cs) - 1) cs (omega arith)
+
+pub not_empty : (w : List ℕ) → eqb (length w) 0 ≡ false → 0 < length w
+not_empty [] h = absurd (false≢true (sym h))
+not_empty (c ∷ cs) h = omega arith
 
 pub minus_some : (w : List ℕ) → 0 < length w → minus_first w ≡ eqb (get_or w 0 0) 45
 unfolding minus_first
@@ -155,20 +145,20 @@ pub record Read (w : List ℕ) (v : ℕ) : Type 0 where
   pub worth : value 0 w ≡ v
   pub most : v ≤ 2147483648
 
-pub was_read : (w : List ℕ) (v : ℕ) → digits_of w ≡ Worth v → Read w v
+pub was_read : (w : List ℕ) (v : ℕ) → digits_of w ≡ Some v → Read w v
 unfolding digits_of
 was_read w v e = go (is_numeral w) (leb (value 0 w) 2147483648) refl refl e where
-  go : (n b : Bool) → is_numeral w ≡ n → leb (value 0 w) 2147483648 ≡ b → pick (n && b) (Worth (value 0 w)) NoDigits ≡ Worth v → Read w v
+  go : (n b : Bool) → is_numeral w ≡ n → leb (value 0 w) 2147483648 ≡ b → pick (n && b) (Some (value 0 w)) None ≡ Some v → Read w v
   go true true n b f =
       let s : value 0 w ≡ v = cc in
       record { numeral = n; worth = s; most = omega (arith, leb-true (value 0 w) 2147483648 b) }
   go true false n b f = absurd (let z : ◌≡◌ {A = ℕ} 0 1 = cc in omega arith)
   go false b₁ n b f = absurd (let z : ◌≡◌ {A = ℕ} 0 1 = cc in omega arith)
 
-pub was_not : (w : List ℕ) → digits_of w ≡ NoDigits → is_numeral w ≡ true → 2147483648 < value 0 w
+pub was_not : (w : List ℕ) → digits_of w ≡ None → is_numeral w ≡ true → 2147483648 < value 0 w
 unfolding digits_of
 was_not w e n = go (leb (value 0 w) 2147483648) refl (rw n at e) where
-  go : (b : Bool) → leb (value 0 w) 2147483648 ≡ b → pick b (Worth (value 0 w)) NoDigits ≡ NoDigits → 2147483648 < value 0 w
+  go : (b : Bool) → leb (value 0 w) 2147483648 ≡ b → pick b (Some (value 0 w)) None ≡ None → 2147483648 < value 0 w
   go true b f = absurd (let z : ◌≡◌ {A = ℕ} 0 1 = cc in omega arith)
   go false b f = leb-false (value 0 w) 2147483648 b
 
@@ -181,17 +171,17 @@ unfolding number_of
 by_plus w h = simp h
 
 -- a sign under which a number fits, or none that was read does
-pub signed_in : (sign : ℤ → ℤ) (w : List ℕ) (v : ℕ) → Read w v → fits32 (sign (pos v)) ≡ true → signed sign w ≡ Is (sign (pos v))
+pub signed_in : (sign : ℤ → ℤ) (w : List ℕ) (v : ℕ) → Read w v → fits32 (sign (pos v)) ≡ true → signed sign w ≡ Some (sign (pos v))
 unfolding signed
 signed_in sign w v r f = rw (r.numeral, r.worth, f)
 
-pub signed_over : (sign : ℤ → ℤ) (w : List ℕ) (v : ℕ) → Read w v → fits32 (sign (pos v)) ≡ false → signed sign w ≡ NoNumber
+pub signed_over : (sign : ℤ → ℤ) (w : List ℕ) (v : ℕ) → Read w v → fits32 (sign (pos v)) ≡ false → signed sign w ≡ None
 unfolding signed
 signed_over sign w v r f = rw (r.numeral, r.worth, f)
 
-pub signed_none : (sign : ℤ → ℤ) (w : List ℕ) → digits_of w ≡ NoDigits → ((v : ℕ) → 2147483648 < v → fits32 (sign (pos v)) ≡ false) → signed sign w ≡ NoNumber
+pub signed_none : (sign : ℤ → ℤ) (w : List ℕ) → digits_of w ≡ None → ((v : ℕ) → 2147483648 < v → fits32 (sign (pos v)) ≡ false) → signed sign w ≡ None
 unfolding signed
 signed_none sign w e beyond = go (is_numeral w) refl where
-  go : (n : Bool) → is_numeral w ≡ n → pick (n && fits32 (sign (pos (value 0 w)))) (Is (sign (pos (value 0 w)))) NoNumber ≡ NoNumber
+  go : (n : Bool) → is_numeral w ≡ n → pick (n && fits32 (sign (pos (value 0 w)))) (Some (sign (pos (value 0 w)))) None ≡ None
   go true n = rw (beyond (value 0 w) (was_not w e n))
   go false n = refl

@@ -1,11 +1,8 @@
 -- A number's decimal text, as a line has it: an optional minus, digits, no leading zero, 32 signed bits. Assumes nothing.
-use Rattle.std.specs.Prelude.{◌+◌, ◌-◌, ◌*◌, ◌&&◌, ◌∷◌}
+use Rattle.std.specs.Prelude.{◌+◌, ◌-◌, ◌*◌, ◌&&◌, ◌∷◌, Option, Some, None}
 use Rattle.numbers.specs.Library.{ℕ, Bool, true, false, not, List, [], leb, eqb, ℤ, pos, neg_ℤ}
 use Rattle.std.specs.Int.Signed.{le_z}
 use Rattle.numbers.specs.Prelude.{pick}
-use Rattle.numerals.specs.declared.{Digits.Digits, Number.Number}
-use Rattle.numerals.specs.declared.Digits.TheVariants.{NoDigits, Worth}
-use Rattle.numerals.specs.declared.Number.TheVariants.{NoNumber, Is}
 
 -- '0' to '9'
 unfoldable pub is_digit : ℕ → Bool
@@ -36,9 +33,9 @@ unfoldable pub fits32 : ℤ → Bool
 fits32 z = le_z (neg_ℤ (pos 2147483648)) z && le_z z (pos 2147483647)
 
 -- the number of a numeral under a sign
-unfoldable pub signed : (ℤ → ℤ) → List ℕ → Number
+unfoldable pub signed : (ℤ → ℤ) → List ℕ → Option ℤ
 signed sign w =
-    pick (is_numeral w && fits32 (sign (pos (value 0 w)))) (Is (sign (pos (value 0 w)))) NoNumber
+    pick (is_numeral w && fits32 (sign (pos (value 0 w)))) (Some (sign (pos (value 0 w)))) None
 
 -- '-'
 unfoldable pub minus_first : List ℕ → Bool
@@ -50,9 +47,9 @@ after_first [] = []
 after_first (c ∷ cs) = cs
 
 -- the number that a word writes
-unfoldable pub number_of : List ℕ → Number
+unfoldable pub number_of : List ℕ → Option ℤ
 number_of w = pick (minus_first w) (signed neg_ℤ (after_first w)) (signed (λ z. z) w)
 
 -- what a numeral is worth, where that number or its negative fits
-unfoldable pub digits_of : List ℕ → Digits
-digits_of w = pick (is_numeral w && leb (value 0 w) 2147483648) (Worth (value 0 w)) NoDigits
+unfoldable pub digits_of : List ℕ → Option ℕ
+digits_of w = pick (is_numeral w && leb (value 0 w) 2147483648) (Some (value 0 w)) None

@@ -8,7 +8,7 @@ ghost use Rattle.script_rules.specs.Step.{Calling, Steps, Doing};
 
 use lines::command::{Change, Command};
 use lines::read::read_line;
-use numbers::refusal;
+use numbers::refusal::Refusal;
 use rows::header::Header;
 use script_calls::{on_ask, on_clear, on_create, on_release};
 use script_rules::answers::say;
@@ -21,18 +21,10 @@ fn change(h: Header, shelves: &mut [u16], items: &mut [u16], asked: Change) -> A
     ensures { Calling h shelves.old items.old (change_of asked) result.header shelves.new items.new (text_of result.answer) }
 {
     match asked {
-        Change::Create(args) => {
-            return on_create(h, shelves, items, args);
-        }
-        Change::Ask(w, height) => {
-            return on_ask(h, shelves, items, w, height);
-        }
-        Change::Release(row, generation) => {
-            return on_release(h, shelves, items, row, generation);
-        }
-        Change::Clear => {
-            return on_clear(h, shelves, items);
-        }
+        Change::Create(args) => on_create(h, shelves, items, args),
+        Change::Ask(w, height) => on_ask(h, shelves, items, w, height),
+        Change::Release(row, generation) => on_release(h, shelves, items, row, generation),
+        Change::Clear => on_clear(h, shelves, items),
     }
 }
 
@@ -47,19 +39,14 @@ pub fn step(
 ) -> Stepped
     ensures { Steps (Doing h shelves.old items.old (command_of line.now)) out.old at result shelves.new items.new out.new }
 {
-    let command = read_line(line);
+    let Some(command) = read_line(line) else {
+        return say(h, out, at, Answer::No(Refusal::NotReadable.number()));
+    };
     match command {
-        Command::Bad => {
-            return say(h, out, at, Answer::No(refusal::NOT_READABLE));
-        }
-        Command::Tell(asked) => {
-            return tell(h, shelves, items, asked, out, at);
-        }
+        Command::Tell(asked) => tell(h, shelves, items, asked, out, at),
         Command::Change(asked) => {
             let answered = change(h, shelves, items, asked);
-            let header = answered.header;
-            let answer = answered.answer;
-            return say(header, out, at, answer);
+            say(answered.header, out, at, answered.answer)
         }
     }
 }

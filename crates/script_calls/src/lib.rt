@@ -27,11 +27,9 @@ pub fn on_create(h: Header, shelves: &mut [u16], items: &mut [u16], args: Create
         args.vertical,
         args.columns,
     );
-    let after = made.header;
-    let answer = made.answer;
     Answered {
-        header: after,
-        answer: of_creation(answer),
+        header: made.header,
+        answer: of_creation(made.answer),
     }
 }
 
@@ -39,29 +37,19 @@ pub fn on_ask(h: Header, shelves: &mut [u16], items: &mut [u16], w: i32, height:
     ensures { Calling h shelves.old items.old (change_of (change.Ask w height)) result.header shelves.new items.new (text_of result.answer) }
 {
     let allocated = allocate::allocate(h, shelves, items, w, height);
-    let header = allocated.header;
-    let answer = allocated.answer;
     Answered {
-        header,
-        answer: of_grant(answer),
+        header: allocated.header,
+        answer: of_grant(allocated.answer),
     }
 }
 
-fn release_id(
-    h: Header,
-    shelves: &mut [u16],
-    items: &mut [u16],
-    row: u16,
-    generation: u16,
-) -> Answered
-    ensures { Calling h shelves.old items.old (call.Release row generation) result.header shelves.new items.new (text_of result.answer) }
+fn release_id(h: Header, shelves: &mut [u16], items: &mut [u16], id: Id) -> Answered
+    ensures { Calling h shelves.old items.old (call.Release id.row id.generation) result.header shelves.new items.new (text_of result.answer) }
 {
-    let released = release::release(h, shelves, items, row, generation);
-    let header = released.header;
-    let answer = released.answer;
+    let released = release::release(h, shelves, items, id.row, id.generation);
     Answered {
-        header,
-        answer: of_reply(answer),
+        header: released.header,
+        answer: of_reply(released.answer),
     }
 }
 
@@ -74,17 +62,12 @@ pub fn on_release(
 ) -> Answered
     ensures { Calling h shelves.old items.old (change_of (change.Release row generation)) result.header shelves.new items.new (text_of result.answer) }
 {
-    let id = id_of(row, generation);
-    match id {
-        Id::Of(of_row, of_generation) => {
-            return release_id(h, shelves, items, of_row, of_generation);
-        }
-        Id::Outside => {
-            return Answered {
-                header: h,
-                answer: outside(h, shelves, items),
-            };
-        }
+    match id_of(row, generation) {
+        Some(id) => release_id(h, shelves, items, id),
+        None => Answered {
+            header: h,
+            answer: outside(h, shelves, items),
+        },
     }
 }
 
@@ -92,10 +75,8 @@ pub fn on_clear(h: Header, shelves: &mut [u16], items: &mut [u16]) -> Answered
     ensures { Calling h shelves.old items.old (change_of change.Clear) result.header shelves.new items.new (text_of result.answer) }
 {
     let cleared = create::clear(h, shelves, items);
-    let header = cleared.header;
-    let answer = cleared.answer;
     Answered {
-        header,
-        answer: of_reply(answer),
+        header: cleared.header,
+        answer: of_reply(cleared.answer),
     }
 }

@@ -1,43 +1,38 @@
 -- What is said of a call is right: the text of a public call's answer is that of the outcome it says, and a refusal changes nothing beside its text.
 -- Assumes nothing.
-use Rattle.std.specs.Prelude.{◌≡◌}
+use Rattle.std.specs.Prelude.{◌≡◌, Option, Some, None, Result, Ok, Err}
 use Rattle.numbers.specs.Library.{ℕ, refl, ap, ◌∙◌, Bool, true, false, not, List}
 use Rattle.numbers.specs.Prelude.{Decides}
-use Rattle.rows.specs.declared.header.Header.{Header}
+use Rattle.numbers.specs.declared.refusal.Refusal.{Refusal}
+use Rattle.rows.specs.declared.{header.Header.Header, live.Live.Live}
 use Rattle.rules.specs.Prelude.{mapped, Outcome, Passes, Call, Value, NoSuchId, is_create, step_in, step_without, step, Leaves, header_kept, Answering, Answers, Asks, passes}
 use Rattle.rules.specs.Prelude.{Promise}
-use Rattle.promises.specs.Prelude.{creations, grants, replies, Promises}
-use Rattle.promises.specs.declared.{answers.Grant.Grant, answers.Creation.Creation, answers.Reply.Reply}
-use Rattle.promises.specs.declared.answers.Grant.TheVariants as grant
-use Rattle.promises.specs.declared.answers.Creation.TheVariants as creation
-use Rattle.promises.specs.declared.answers.Reply.TheVariants as reply
+use Rattle.promises.specs.Prelude.{says, creations, grants, replies, Promises}
 use Rattle.promises.proofs.Cases.{said_so, unchanged, fails_first, refuses}
 use Rattle.lines.specs.declared.command.Command.{Command}
-use Rattle.lines.specs.declared.command.Command.TheVariants as command
 use Rattle.texts.specs.Answer.{text_of}
 use Rattle.texts.specs.declared.answer.Answer.{Answer}
 use Rattle.texts.specs.declared.answer.Answer.TheVariants as answer
 use Rattle.script_rules.specs.Answers.{on_id, outcome_text, created, granted, replied}
 use Rattle.script_rules.specs.Step.{Texts, Calling, Doing, Said, Steps}
 use Rattle.script_rules.specs.declared.{Stepped.Stepped, ids.Id.Id}
-use Rattle.script_rules.specs.declared.ids.Id.TheVariants as id
 
 -- ---- the text of an answer is that of the outcome it says
 
-pub created_text : (r : Creation) → text_of (created r) ≡ outcome_text (creations.says r)
-unfolding created outcome_text creations
-created_text (creation.Made n) = refl
-created_text (creation.Refused n) = refl
+pub created_text : (r : Result ℕ Refusal) → text_of (created r) ≡ outcome_text (creations.says r)
+unfolding outcome_text creations says
+created_text (Ok n) = refl
+created_text (Err e) = refl
 
-pub granted_text : (r : Grant) → text_of (granted r) ≡ outcome_text (grants.says r)
-unfolding granted outcome_text grants
-granted_text (grant.Granted l) = refl
-granted_text (grant.Refused n) = refl
+pub granted_text : (r : Result Live Refusal) → text_of (granted r) ≡ outcome_text (grants.says r)
+unfolding outcome_text grants says
+granted_text (Ok l) = refl
+granted_text (Err e) = refl
 
-pub replied_text : (r : Reply) → text_of (replied r) ≡ outcome_text (replies.says r)
-unfolding replied outcome_text replies
-replied_text reply.Done = refl
-replied_text (reply.Refused n) = refl
+pub replied_text : (r : Result (Unit {0}) Refusal) → text_of (replied r) ≡ outcome_text (replies.says r)
+unfolding outcome_text replies says
+replied_text (Ok t) = refl
+replied_text (Err e) = refl
 
 -- a public call was made: its answer's text is right beside the header that it returned
 module _ {A : Type 0} (t : Answering A) (answer : A → Answer) (same : (r : A) → text_of (answer r) ≡ outcome_text (t.says r)) where
@@ -57,22 +52,22 @@ said {text = text} right s = record { text = text; puts = s.puts; right = rw s.h
 pub as_called : (h : Header) (S I : List ℕ) (h' : Header) (S' I' text : List ℕ) {a b : Call} → a ≡ b → Calling h S I b h' S' I' text → Calling h S I a h' S' I' text
 as_called h S I h' S' I' text e c = rw e c
 
-pub as_read : (h : Header) (S I : List ℕ) {a b : Command} → a ≡ b → {out : List ℕ} {at : ℕ} {r : Stepped} {S' I' out' : List ℕ}
+pub as_read : (h : Header) (S I : List ℕ) {a b : Option Command} → a ≡ b → {out : List ℕ} {at : ℕ} {r : Stepped} {S' I' out' : List ℕ}
     → Steps (Doing h S I b) out at r S' I' out' → Steps (Doing h S I a) out at r S' I' out'
 as_read h S I e s = record { text = s.text; puts = s.puts; right = rw e s.right }
 
 module _ (asked : ℕ → ℕ → Call) where
-  pub on_id_lem : {i : Id} {row generation : ℕ} → i ≡ id.Of row generation → on_id asked i ≡ asked row generation
+  pub on_id_lem : {i : Option Id} {id : Id} → i ≡ Some id → on_id asked i ≡ asked id.row id.generation
   unfolding on_id
   on_id_lem e = ap (on_id asked) e
 
-  pub on_none : {i : Id} → i ≡ id.Outside → on_id asked i ≡ NoSuchId
+  pub on_none : {i : Option Id} → i ≡ None → on_id asked i ≡ NoSuchId
   unfolding on_id
   on_none e = ap (on_id asked) e
 
 -- ---- a line that is no command
 
-pub unreadable : (h : Header) (S I : List ℕ) → Doing h S I command.Bad h S I (text_of (answer.No 11))
+pub unreadable : (h : Header) (S I : List ℕ) → Doing h S I None h S I (text_of (answer.No 11))
 unfolding Doing Promise Asks step step_in mapped Leaves header_kept is_create outcome_text
 unreadable h S I = passes tt (record { says = refl; leaves = unchanged })
 

@@ -1,12 +1,12 @@
 -- What the script's commands ask of the rules, and the text of each outcome. Assumes nothing.
+use Rattle.std.specs.Prelude.{Option, Some, None, Result, Ok, Err}
 use Rattle.numbers.specs.Library.{ℕ, List, []}
+use Rattle.numbers.specs.Prelude.{refusal_number}
+use Rattle.numbers.specs.declared.refusal.Refusal.{Refusal}
+use Rattle.rows.specs.declared.live.Live.{Live}
 use Rattle.rules.specs.Prelude.{Outcome, refused, gives, Call, Value, columns_made, done, items, count, area, space, sides, vacant}
 use Rattle.rules.specs.Step as call
 use Rattle.rules.specs.Step.{item}
-use Rattle.promises.specs.declared.{answers.Grant.Grant, answers.Creation.Creation, answers.Reply.Reply}
-use Rattle.promises.specs.declared.answers.Grant.TheVariants as grant
-use Rattle.promises.specs.declared.answers.Creation.TheVariants as creation
-use Rattle.promises.specs.declared.answers.Reply.TheVariants as reply
 use Rattle.lines.specs.declared.{command.Command.Command, command.Tell.Tell, command.Change.Change}
 use Rattle.lines.specs.declared.command.Command.TheVariants as command
 use Rattle.lines.specs.declared.command.Tell.TheVariants as tell
@@ -17,14 +17,13 @@ use Rattle.texts.specs.declared.answer.Answer.TheVariants as answer
 use Rattle.script_rules.specs.Ids.{id_of}
 use Rattle.script_rules.specs.Listing.{list_text}
 use Rattle.script_rules.specs.declared.ids.Id.{Id}
-use Rattle.script_rules.specs.declared.ids.Id.TheVariants as id
 
 -- ---- a command as a call of the rules
 
 -- "A row or generation outside 0 to 65535 is 8."
-unfoldable pub on_id : (ℕ → ℕ → Call) → Id → Call
-on_id asked (id.Of row generation) = asked row generation
-on_id asked id.Outside = call.NoSuchId
+unfoldable pub on_id : (ℕ → ℕ → Call) → Option Id → Call
+on_id asked (Some id) = asked id.row id.generation
+on_id asked None = call.NoSuchId
 
 -- the script's list goes to the output, which has room for every row of a table
 abbrev pub every_row : ℕ
@@ -43,11 +42,12 @@ change_of (change.Ask w h) = call.Allocate w h
 change_of (change.Release row generation) = on_id call.Release (id_of row generation)
 change_of change.Clear = call.Clear
 
-unfoldable pub call_of : Command → Call
+-- no command is a line that can't be read
+unfoldable pub call_of : Option Command → Call
 unfolding tell_of change_of
-call_of command.Bad = call.Unreadable
-call_of (command.Tell asked) = tell_of asked
-call_of (command.Change asked) = change_of asked
+call_of None = call.Unreadable
+call_of (Some (command.Tell asked)) = tell_of asked
+call_of (Some (command.Change asked)) = change_of asked
 
 -- ---- the text of an outcome: "ok" and what is told, or "no N"
 
@@ -70,14 +70,14 @@ outcome_text (gives v) = value_text v
 
 -- ---- what the public calls answer, as the script's answers
 
-unfoldable pub created : Creation → Answer
-created (creation.Made columns) = answer.Made columns
-created (creation.Refused number) = answer.No number
+abbrev pub created : Result ℕ Refusal → Answer
+created (Ok columns) = answer.Made columns
+created (Err e) = answer.No (refusal_number e)
 
-unfoldable pub granted : Grant → Answer
-granted (grant.Granted live) = answer.Item live
-granted (grant.Refused number) = answer.No number
+abbrev pub granted : Result Live Refusal → Answer
+granted (Ok live) = answer.Item live
+granted (Err e) = answer.No (refusal_number e)
 
-unfoldable pub replied : Reply → Answer
-replied reply.Done = answer.Done
-replied (reply.Refused number) = answer.No number
+abbrev pub replied : Result (Unit {0}) Refusal → Answer
+replied (Ok t) = answer.Done
+replied (Err e) = answer.No (refusal_number e)

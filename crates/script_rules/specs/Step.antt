@@ -1,6 +1,6 @@
 -- One line of the script: it is one step of the rules, and its text is that of the outcome. `h`, `S` and `I` are the header and the two tables
 -- before it, `h'`, `S'` and `I'` after it. Assumes nothing.
-use Rattle.std.specs.Prelude.{◌≡◌}
+use Rattle.std.specs.Prelude.{◌≡◌, Option}
 use Rattle.numbers.specs.Library.{ℕ, List}
 use Rattle.rows.specs.declared.header.Header.{Header}
 use Rattle.rules.specs.Prelude.{Outcome, Call, Value, Promise}
@@ -17,7 +17,7 @@ Texts text o = text ≡ outcome_text o
 unfoldable pub Calling : Header → List ℕ → List ℕ → Call → Header → List ℕ → List ℕ → List ℕ → Type 0
 Calling h S I call h' S' I' text = Promise call (Texts text) h S I h' S' I'
 
-unfoldable pub Doing : Header → List ℕ → List ℕ → Command → Header → List ℕ → List ℕ → List ℕ → Type 0
+unfoldable pub Doing : Header → List ℕ → List ℕ → Option Command → Header → List ℕ → List ℕ → List ℕ → Type 0
 unfolding Calling call_of
 Doing h S I command h' S' I' text = Calling h S I (call_of command) h' S' I' text
 

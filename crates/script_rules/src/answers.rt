@@ -5,34 +5,35 @@ ghost use Rattle.script_rules.specs.Answers.{created, granted, replied};
 ghost use Rattle.script_rules.specs.Step.{Said};
 
 use crate::Stepped;
-use promises::answers::{Creation, Grant, Reply};
+use numbers::refusal::Refusal;
 use rows::header::Header;
+use rows::live::Live;
 use texts::answer::{Answer, put_answer};
 
-pub fn of_creation(c: Creation) -> Answer
+pub fn of_creation(c: Result<u16, Refusal>) -> Answer
     ensures { result ≡ created c }
 {
     match c {
-        Creation::Made(columns) => Answer::Made(columns),
-        Creation::Refused(number) => Answer::No(number),
+        Ok(columns) => Answer::Made(columns),
+        Err(refusal) => Answer::No(refusal.number()),
     }
 }
 
-pub fn of_grant(g: Grant) -> Answer
+pub fn of_grant(g: Result<Live, Refusal>) -> Answer
     ensures { result ≡ granted g }
 {
     match g {
-        Grant::Granted(live) => Answer::Item(live),
-        Grant::Refused(number) => Answer::No(number),
+        Ok(live) => Answer::Item(live),
+        Err(refusal) => Answer::No(refusal.number()),
     }
 }
 
-pub fn of_reply(reply: Reply) -> Answer
+pub fn of_reply(reply: Result<(), Refusal>) -> Answer
     ensures { result ≡ replied reply }
 {
     match reply {
-        Reply::Done => Answer::Done,
-        Reply::Refused(number) => Answer::No(number),
+        Ok(()) => Answer::Done,
+        Err(refusal) => Answer::No(refusal.number()),
     }
 }
 

@@ -2,25 +2,19 @@
 ghost use Rattle.std.specs.Prelude.{◌≡◌};
 ghost use Rattle.script_rules.specs.Ids.{id_of};
 
-use lines::ids::{Named, row_of};
+use lines::ids::row_of;
 
 #[derive(Clone, Copy)]
-pub enum Id {
-    Of(u16, u16),
-    Outside,
+pub struct Id {
+    pub row: u16,
+    pub generation: u16,
 }
 
-// Outside where either is below 0 or over 65535.
-pub fn id_of(row: i32, generation: i32) -> Id
+// None where either is below 0 or over 65535.
+pub fn id_of(row: i32, generation: i32) -> Option<Id>
     ensures { result ≡ id_of row generation }
 {
-    let i = row_of(row);
-    let g = row_of(generation);
-    let Named::Row(of_row) = i else {
-        return Id::Outside;
-    };
-    let Named::Row(of_generation) = g else {
-        return Id::Outside;
-    };
-    Id::Of(of_row, of_generation)
+    let row = row_of(row)?;
+    let generation = row_of(generation)?;
+    Some(Id { row, generation })
 }

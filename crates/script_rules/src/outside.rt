@@ -3,7 +3,7 @@ ghost use Rattle.rules.specs.Step as call;
 ghost use Rattle.texts.specs.Answer.{text_of};
 ghost use Rattle.script_rules.specs.Step.{Calling};
 
-use numbers::refusal;
+use numbers::refusal::Refusal;
 use rows::header::Header;
 use texts::answer::Answer;
 
@@ -12,7 +12,7 @@ pub fn outside(h: Header, shelves: &[u16], items: &[u16]) -> Answer
     ensures { Calling h shelves.now items.now call.NoSuchId h shelves.now items.now (text_of result) }
 {
     if !audit::passes(h, shelves, items) {
-        return Answer::No(refusal::AUDIT);
+        return Answer::No(Refusal::Audit.number());
     }
-    Answer::No(refusal::NO_SUCH_ITEM)
+    Answer::No(Refusal::NoSuchItem.number())
 }

@@ -7,9 +7,10 @@ ghost use Rattle.script_rules.specs.Answers.{tell_of};
 ghost use Rattle.script_rules.specs.Step.{Steps, Calling};
 
 use numbers::index::ItemIndex;
-use numbers::refusal;
+use numbers::refusal::Refusal;
 use rows::header::Header;
-use rows::item;
+use rows::item::ItemRow;
+use rows::row::Row;
 use script_rules::Stepped;
 use script_rules::answers::say;
 use texts::answer::{Answer, put_answer};
@@ -27,7 +28,7 @@ fn put_row(h: Header, shelves: &[u16], items: &[u16], row: u16, out: &mut [u8], 
     ensures { Listed (row_listed h shelves.now items.now row) out.old at result out.new }
 {
     let index = ItemIndex(row);
-    let i = item::item_there(items, index);
+    let i = ItemRow::there(items, index);
     if i.allocated != 1 {
         return Lines { count: 0, at };
     }
@@ -45,12 +46,10 @@ fn put_rows(h: Header, shelves: &[u16], items: &[u16], out: &mut [u8], at: usize
 {
     let mut count: u32 = 0;
     let mut end = at;
-    let mut row: u16 = 0;
-    while row < h.used_items {
+    for row in 0..h.used_items {
         let lines = put_row(h, shelves, items, row, out, end);
         count += lines.count;
         end = lines.at;
-        row += 1;
     }
     Lines { count, at: end }
 }
@@ -59,7 +58,7 @@ pub fn on_list(h: Header, shelves: &[u16], items: &[u16], out: &mut [u8], at: us
     ensures { Steps (Calling h shelves.now items.now (tell_of tell.List)) out.old at result shelves.now items.now out.new }
 {
     if !audit::passes(h, shelves, items) {
-        return say(h, out, at, Answer::No(refusal::AUDIT));
+        return say(h, out, at, Answer::No(Refusal::Audit.number()));
     }
     let lines = put_rows(h, shelves, items, out, at);
     say(h, out, lines.at, Answer::End(lines.count))

@@ -7,7 +7,7 @@ ghost use Rattle.script_rules.specs.Step.{Steps, Calling};
 
 use crate::list::on_list;
 use lines::command::Tell;
-use numbers::refusal;
+use numbers::refusal::Refusal;
 use rows::header::Header;
 use script_rules::Stepped;
 use script_rules::answers::{of_grant, say};
@@ -15,23 +15,18 @@ use script_rules::ids::{Id, id_of};
 use script_rules::outside::outside;
 use texts::answer::Answer;
 
-fn look_id(h: Header, shelves: &[u16], items: &[u16], row: u16, generation: u16) -> Answer
-    ensures { Calling h shelves.now items.now (call.LookUp row generation) h shelves.now items.now (text_of result) }
+fn look_id(h: Header, shelves: &[u16], items: &[u16], id: Id) -> Answer
+    ensures { Calling h shelves.now items.now (call.LookUp id.row id.generation) h shelves.now items.now (text_of result) }
 {
-    of_grant(queries::tell::look_up(h, shelves, items, row, generation))
+    of_grant(queries::tell::look_up(h, shelves, items, id.row, id.generation))
 }
 
 fn on_look(h: Header, shelves: &[u16], items: &[u16], row: i32, generation: i32) -> Answer
     ensures { Calling h shelves.now items.now (tell_of (tell.Look row generation)) h shelves.now items.now (text_of result) }
 {
-    let id = id_of(row, generation);
-    match id {
-        Id::Of(of_row, of_generation) => {
-            return look_id(h, shelves, items, of_row, of_generation);
-        }
-        Id::Outside => {
-            return outside(h, shelves, items);
-        }
+    match id_of(row, generation) {
+        Some(id) => look_id(h, shelves, items, id),
+        None => outside(h, shelves, items),
     }
 }
 
@@ -40,7 +35,7 @@ fn on_space(h: Header, shelves: &[u16], items: &[u16]) -> Answer
     ensures { Calling h shelves.now items.now (tell_of tell.Space) h shelves.now items.now (text_of result) }
 {
     if !audit::passes(h, shelves, items) {
-        return Answer::No(refusal::AUDIT);
+        return Answer::No(Refusal::Audit.number());
     }
     Answer::Space(h.occupied, queries::tell::space_left(h))
 }
@@ -56,14 +51,8 @@ pub fn tell(
     ensures { Steps (Calling h shelves.now items.now (tell_of asked)) out.old at result shelves.now items.now out.new }
 {
     match asked {
-        Tell::Look(row, generation) => {
-            return say(h, out, at, on_look(h, shelves, items, row, generation));
-        }
-        Tell::Space => {
-            return say(h, out, at, on_space(h, shelves, items));
-        }
-        Tell::List => {
-            return on_list(h, shelves, items, out, at);
-        }
+        Tell::Look(row, generation) => say(h, out, at, on_look(h, shelves, items, row, generation)),
+        Tell::Space => say(h, out, at, on_space(h, shelves, items)),
+        Tell::List => on_list(h, shelves, items, out, at),
     }
 }

@@ -17,10 +17,8 @@ pub fn put_text(out: &mut [u8], at: usize, text: &[u8]) -> usize
     ensures { Puts out.old at text.now out.new result }
 {
     let mut end = at;
-    let mut i: usize = 0;
-    while i < text.len() {
-        end = put_byte(out, end, text[i]);
-        i += 1;
+    for &byte in text {
+        end = put_byte(out, end, byte);
     }
     end
 }
@@ -34,7 +32,7 @@ pub fn put_number(out: &mut [u8], at: usize, n: u32) -> usize
     let mut rest = n;
     while rest > 9 {
         digits[i] = b'0' + (rest % 10) as u8;
-        rest = rest / 10;
+        rest /= 10;
         i -= 1;
     }
     digits[i] = b'0' + rest as u8;
@@ -46,11 +44,9 @@ pub fn put_spaced(out: &mut [u8], at: usize, numbers: &[u32]) -> usize
     ensures { Puts out.old at (spaced numbers.now) out.new result }
 {
     let mut end = at;
-    let mut i: usize = 0;
-    while i < numbers.len() {
+    for &number in numbers {
         end = put_byte(out, end, b' ');
-        end = put_number(out, end, numbers[i]);
-        i += 1;
+        end = put_number(out, end, number);
     }
     end
 }

@@ -1,10 +1,6 @@
+use Rattle.input.specs.Line.{kept, kept_short}
 use Rattle.app.specs.Reads.{answered_none}
 use Rattle.app.proofs.finish.Goals as goal
 
-pub returns-then-have-eq0 : goal.returns-then-have-eq0
-returns-then-have-eq0 g c =
-    let a = c.args in
-    record {
-      have_bound_2 = c.requires.have_bound;
-      reads = record { bytes = _; answered = answered_none a.line.now a.have c.requires.have_bound _ };
-    }
+pub returns-then-is_empty : goal.returns-then-is_empty
+returns-then-is_empty g c = let line = c.args.line.now in record { bytes = _; answered = answered_none (kept line) (kept_short line) _ }

@@ -1,17 +1,15 @@
-use Rattle.numbers.specs.Library.{[], rules}
-use Rattle.app.specs.Reads.{answered_none, reads_then}
+use Rattle.input.specs.Line.{kept, kept_short}
+use Rattle.app.specs.Reads.{answered_none, reads_then, obeyed}
 use Rattle.app.proofs.obey.Goals as goal
 
-pub loop-turns-init : goal.loop-turns-init
-loop-turns-init g c = (record { bytes = _; answered = answered_none [] 0 (search rules) _ }, search rules, search rules, search rules, search rules)
+pub loop-init : goal.loop-init
+loop-init g c = let line = c.new-line.result in record { bytes = _; answered = answered_none (kept line) (kept_short line) _ }
 
-pub loop-turns-preserved : goal.loop-turns-preserved
-loop-turns-preserved g c =
-    let t = c.turn-t.ensures in
-    (reads_then c.loop-turns.invariant.0 t.reads, t.have_bound_2, search rules, search rules, search rules)
+pub loop-preserved : goal.loop-preserved
+loop-preserved g c = reads_then c.loop.invariant c.turn.ensures
 
-pub returns-else-more : goal.returns-else-more
-returns-else-more g c = record { kept = _; reads = rw c.no_header-header.ensures at c.loop-turns.invariant.0 }
+pub returns-after-loop : goal.returns-after-loop
+returns-after-loop g c = obeyed _ _ c.new-line.ensures c.no_header-header.ensures c.loop.invariant
 
-pub returns-after-loop-turns : goal.returns-after-loop-turns
-returns-after-loop-turns g c = record { kept = _; reads = rw c.no_header-header.ensures at c.loop-turns.invariant.0 }
+pub returns-then-not-turn : goal.returns-then-not-turn
+returns-then-not-turn g c = obeyed _ _ c.new-line.ensures c.no_header-header.ensures (reads_then c.loop.invariant c.turn.ensures)

@@ -9,4 +9,4 @@ pub returns : goal.returns
 unfolding Releases
 returns c =
     let a = c.args in
-    told_by_lem replies replied replied_text (Release a.row a.generation) _ _ _ _ _ _ _ c.release-released.ensures _ c.of_reply.ensures
+    told_by_lem replies replied replied_text (Release a.id.row a.id.generation) _ _ _ _ _ _ _ c.release-released.ensures _ c.of_reply.ensures

@@ -1,21 +1,21 @@
-use Rattle.numbers.specs.Library.{eq-eqb, ne_eqb}
+use Rattle.numbers.specs.Library.{arith, ne_eqb}
 use Rattle.lines.specs.Line.{of_none}
 use Rattle.lines.proofs.read.of_none.Goals as goal
 
-pub returns-then-letter-eq115 : goal.returns-then-letter-eq115
+pub returns-in-115 : goal.returns-in-115
 unfolding of_none
-returns-then-letter-eq115 c = simp (eq-eqb c.args.letter 115 c.if-letter-eq115.true)
+returns-in-115 c = rw c.in-115.is
 
-pub returns-then-letter-eq108 : goal.returns-then-letter-eq108
+pub returns-in-108 : goal.returns-in-108
 unfolding of_none
-returns-then-letter-eq108 c = simp (ne_eqb c.args.letter 115 c.if-letter-eq115.false, eq-eqb c.args.letter 108 c.if-letter-eq108.true)
+returns-in-108 c = rw c.in-108.is
 
-pub returns-then-letter-eq99 : goal.returns-then-letter-eq99
+pub returns-in-99 : goal.returns-in-99
 unfolding of_none
-returns-then-letter-eq99 c =
-    simp (ne_eqb c.args.letter 115 c.if-letter-eq115.false, ne_eqb c.args.letter 108 c.if-letter-eq108.false, eq-eqb c.args.letter 99 c.if-letter-eq99.true)
+returns-in-99 c = rw c.in-99.is
 
-pub returns : goal.returns
+pub returns-in_default : goal.returns-in_default
 unfolding of_none
-returns c =
-    simp (ne_eqb c.args.letter 115 c.if-letter-eq115.false, ne_eqb c.args.letter 108 c.if-letter-eq108.false, ne_eqb c.args.letter 99 c.if-letter-eq99.false)
+returns-in_default c =
+    let l = c.args.letter in
+    simp (ne_eqb l 115 (λ e. omega arith), ne_eqb l 108 (λ e. omega arith), ne_eqb l 99 (λ e. omega arith))

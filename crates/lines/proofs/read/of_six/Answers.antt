@@ -1,11 +1,11 @@
-use Rattle.numbers.specs.Library.{eq-eqb, ne_eqb}
+use Rattle.numbers.specs.Library.{arith, ne_eqb}
 use Rattle.lines.specs.Line.{of_six}
 use Rattle.lines.proofs.read.of_six.Goals as goal
 
-pub returns-then-letter-eq110 : goal.returns-then-letter-eq110
+pub returns-in-110 : goal.returns-in-110
 unfolding of_six
-returns-then-letter-eq110 c = simp (eq-eqb c.args.letter 110 c.if-letter-eq110.true)
+returns-in-110 c = rw c.in-110.is
 
-pub returns : goal.returns
+pub returns-in_default : goal.returns-in_default
 unfolding of_six
-returns c = simp (ne_eqb c.args.letter 110 c.if-letter-eq110.false)
+returns-in_default c = simp (ne_eqb c.args.letter 110 (λ e. omega arith))

@@ -1,22 +1,21 @@
-use Rattle.numbers.specs.Library.{to_z-of_z, eq-eqb, ne_eqb}
+use Rattle.numbers.specs.Library.{arith, ne_eqb, to_z-of_z}
 use Rattle.lines.specs.Line.{of_two}
 use Rattle.lines.proofs.read.of_two.Goals as goal
 
-pub returns-then-letter-eq97 : goal.returns-then-letter-eq97
+pub returns-in-97 : goal.returns-in-97
 unfolding of_two
-returns-then-letter-eq97 c = simp (eq-eqb c.args.letter 97 c.if-letter-eq97.true, to_z-of_z c.ranges.x, to_z-of_z c.ranges.y)
+returns-in-97 c = simp (c.in-97.is, to_z-of_z c.ranges.x, to_z-of_z c.ranges.y)
 
-pub returns-then-letter-eq114 : goal.returns-then-letter-eq114
+pub returns-in-114 : goal.returns-in-114
 unfolding of_two
-returns-then-letter-eq114 c =
-    simp (ne_eqb c.args.letter 97 c.if-letter-eq97.false, eq-eqb c.args.letter 114 c.if-letter-eq114.true, to_z-of_z c.ranges.x, to_z-of_z c.ranges.y)
+returns-in-114 c = simp (c.in-114.is, to_z-of_z c.ranges.x, to_z-of_z c.ranges.y)
 
-pub returns-then-letter-eq103 : goal.returns-then-letter-eq103
+pub returns-in-103 : goal.returns-in-103
 unfolding of_two
-returns-then-letter-eq103 c =
-    simp (ne_eqb c.args.letter 97 c.if-letter-eq97.false, ne_eqb c.args.letter 114 c.if-letter-eq114.false, eq-eqb c.args.letter 103 c.if-letter-eq103.true, to_z-of_z c.ranges.x, to_z-of_z c.ranges.y)
+returns-in-103 c = simp (c.in-103.is, to_z-of_z c.ranges.x, to_z-of_z c.ranges.y)
 
-pub returns : goal.returns
+pub returns-in_default : goal.returns-in_default
 unfolding of_two
-returns c =
-    simp (ne_eqb c.args.letter 97 c.if-letter-eq97.false, ne_eqb c.args.letter 114 c.if-letter-eq114.false, ne_eqb c.args.letter 103 c.if-letter-eq103.false)
+returns-in_default c =
+    let l = c.args.letter in
+    simp (ne_eqb l 97 (λ e. omega arith), ne_eqb l 114 (λ e. omega arith), ne_eqb l 103 (λ e. omega arith))

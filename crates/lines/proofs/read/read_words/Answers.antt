@@ -1,10 +1,9 @@
-use Rattle.std.specs.Prelude.{◌+◌, ◌-◌, ◌≡◌}
+use Rattle.std.specs.Prelude.{◌+◌, ◌-◌, ◌≡◌, Some, None}
 use Rattle.numbers.specs.Library.{ℕ, arith, refl, sym, ap, ◌∙◌, subst, length-take-le, length, drop, take, set, get_or, length-set, ℤ}
 use Rattle.numbers.specs.Library.{List, add-one}
 use Rattle.lines.proofs.Words.{Claim, claim_start, claim_more, claim_bad, claim_full, claim_end, said_bad, word_of, back}
 use Rattle.numerals.specs.Numeral.{number_of}
 use Rattle.lines.specs.Line.{first_word}
-use Rattle.numerals.specs.declared.Number.TheVariants.{NoNumber, Is}
 use lib.Seq.{take-suc-set}
 use Rattle.lines.proofs.read.read_words.Goals as goal
 
@@ -28,23 +27,23 @@ returns-then-count-eq6 c =
     let n : length (take p.count p.numbers) ≡ p.count = length-take-le p.count p.numbers (omega arith) in
     sym (claim_full l _ (take p.count p.numbers) p.at p.invariant.3 c.loop-at-test.true (omega arith))
 
-pub returns-in-NoNumber : goal.returns-in-NoNumber
-returns-in-NoNumber c =
+pub returns-in_err-z : goal.returns-in_err-z
+returns-in_err-z c =
     let l = c.args.line.now in
     let p = c.loop-at in
     let q : c.word_end-end.result ≡ p.at + 1 + length (first_word (drop (p.at + 1) l)) = c.word_end-end.ensures.value in
-    let r : c.read_number-w.result ≡ number_of (take (c.word_end-end.result - (p.at + 1)) (drop (p.at + 1) l)) = c.read_number-w.ensures in
-    let w : number_of (first_word (drop (p.at + 1) l)) ≡ NoNumber = ap number_of (sym (word_of l (p.at + 1) _ q)) ∙ sym r ∙ c.in-NoNumber.is in
-    sym (claim_bad l _ (take p.count p.numbers) p.at p.invariant.3 _ c.loop-at-test.true q w)
+    let r : c.read_number.result ≡ number_of (take (c.word_end-end.result - (p.at + 1)) (drop (p.at + 1) l)) = c.read_number.ensures in
+    let w : number_of (first_word (drop (p.at + 1) l)) ≡ None = ap number_of (sym (word_of l (p.at + 1) _ q)) ∙ sym r ∙ c.in_err-z.was in
+    c.from_residual.ensures ∙ sym (claim_bad l _ (take p.count p.numbers) p.at p.invariant.3 _ c.loop-at-test.true q w)
 
 pub loop-at-preserved : goal.loop-at-preserved
 loop-at-preserved c =
     let l = c.args.line.now in
     let p = c.loop-at in
-    let z = c.in-Is.z in
+    let z = c.in_ok-z.z in
     let q : c.word_end-end.result ≡ p.at + 1 + length (first_word (drop (p.at + 1) l)) = c.word_end-end.ensures.value in
-    let r : c.read_number-w.result ≡ number_of (take (c.word_end-end.result - (p.at + 1)) (drop (p.at + 1) l)) = c.read_number-w.ensures in
-    let w : number_of (first_word (drop (p.at + 1) l)) ≡ Is z = ap number_of (sym (word_of l (p.at + 1) _ q)) ∙ sym r ∙ c.in-Is.is in
+    let r : c.read_number.result ≡ number_of (take (c.word_end-end.result - (p.at + 1)) (drop (p.at + 1) l)) = c.read_number.ensures in
+    let w : number_of (first_word (drop (p.at + 1) l)) ≡ Some z = ap number_of (sym (word_of l (p.at + 1) _ q)) ∙ sym r ∙ c.in_ok-z.was in
     let k = claim_more l _ (take p.count p.numbers) p.at p.invariant.3 _ z c.loop-at-test.true q w in
     rw (back z (omega arith)) (
       c.word_end-end.ensures.upper_bound,

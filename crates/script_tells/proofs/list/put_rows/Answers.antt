@@ -1,8 +1,5 @@
-use Rattle.std.specs.Prelude.{◌≡◌}
-use Rattle.numbers.specs.Library.{subst, ℕ, arith}
-use Rattle.live_rows.specs.Live.{rows_listed}
-use Rattle.texts.specs.Put.{put-length}
-use Rattle.script_tells.specs.Listing.{Listed, listed_none, listed_then}
+use Rattle.numbers.specs.Library.{arith}
+use Rattle.script_tells.specs.Listing.{listed_none, listed_then}
 use Rattle.script_tells.proofs.Rows.{row_few, rows_none, rows_more}
 use Rattle.script_tells.proofs.list.put_rows.Goals as goal
 
@@ -24,13 +21,3 @@ loop-row-preserved c =
       omega (arith, c.put_row-lines.ensures.counted, row_few given.h given.shelves.now given.items.now c.loop-row.row),
       omega arith,
     )
-
-pub shape_of-out : goal.shape_of-out
-shape_of-out c = put-length c.loop-row.invariant.0.puts.puts
-
-pub returns : goal.returns
-returns c =
-    let given = c.args in
-    let turn = c.loop-row in
-    let e : turn.row ≡ given.h.used_items = omega arith in
-    subst (λ (n : ℕ). Listed (rows_listed given.h given.shelves.now given.items.now n) given.out.now given.at (record { count = turn.count; at = turn.end }) turn.out) e c.loop-row.invariant.0

@@ -16,20 +16,5 @@ pub returns-in-Done : goal.returns-in-Done
 unfolding spaced line newlines
 returns-in-Done c = as-told c.in-Done.is (record { puts = c.put_text.ensures; short = omega arith })
 
-pub returns-in-Made : goal.returns-in-Made
-returns-in-Made c = as-told c.in-Made.is c.put_made.ensures
-
-pub returns-in-Item : goal.returns-in-Item
-returns-in-Item c = as-told c.in-Item.is c.put_item.ensures
-
-pub returns-in-Space : goal.returns-in-Space
-returns-in-Space c = as-told c.in-Space.is c.put_space.ensures
-
 pub returns-in-Listed : goal.returns-in-Listed
 returns-in-Listed c = as-told c.in-Listed.is (live_lines _ c.put_live.ensures.live_len_bound c.put_live.ensures.puts)
-
-pub returns-in-End : goal.returns-in-End
-returns-in-End c = as-told c.in-End.is c.put_end.ensures
-
-pub returns-in-No : goal.returns-in-No
-returns-in-No c = as-told c.in-No.is c.put_no.ensures

@@ -30,12 +30,6 @@ loop-rest-preserved c =
       all = rw j (found_more _ l.rest l.i l.digits l.invariant h);
     }
 
-pub slice_bounds-put_text-end : goal.slice_bounds-put_text-end
-slice_bounds-put_text-end c =
-    let l = c.loop-rest in
-    let n : 10 ≤ length (set l.digits l.i (48 + l.rest)) = omega (arith, length-set l.digits l.i (48 + l.rest), l.invariant.room) in
-    n
-
 pub returns : goal.returns
 returns c =
     let l = c.loop-rest in
