@@ -1,12 +1,13 @@
 -- The answers of the calls without the audit, as the benchmark's driver gets them. Assumes nothing.
-use Rattle.std.specs.Prelude.{◌+◌, ◌*◌, ◌/◌, ◌%◌, ◌≡◌}
+use Rattle.std.specs.Prelude.{◌+◌, ◌*◌, ◌/◌, ◌%◌, ◌≡◌, Result}
 use Rattle.numbers.specs.Library.{ℕ, subst, List, ℤ, length, get_or, set, arith}
 use Rattle.rows.specs.Prelude.{each_all}
-use Rattle.rows.specs.declared.header.Header.{Header}
+use Rattle.numbers.specs.declared.refusal.Refusal.{Refusal}
+use Rattle.rows.specs.declared.{header.Header.Header, live.Live.Live}
 use Rattle.hosts.specs.Values.{header_of}
 use Rattle.hosts.specs.declared.values.AtlasHeader.{AtlasHeader}
 use Rattle.promises.specs.Prelude.{Allocates, Releases, LooksUp, Lists}
-use Rattle.promises.specs.declared.{answers.Grant.Grant, answers.Listing.Listing, answers.Allocated.Allocated, answers.Replied.Replied}
+use Rattle.promises.specs.declared.answers.Answered.{Answered}
 use Rattle.hosts.specs.Told.{grant_told, reply_told, count_told}
 use Rattle.hosts.specs.declared.{values.HostGrant.HostGrant, values.HostCount.HostCount}
 
@@ -41,23 +42,23 @@ in_put n h long same =
 
 -- each call keeps the public call's promise, and tells its answer
 pub record AllocatesSo (n S I : List ℕ) (w height : ℤ) (r : HostGrant) (n' S' I' : List ℕ) : Type 0 where
-  pub said : Allocated
+  pub said : Answered Live
   pub promise : Allocates (header_in n) S I w height said S' I'
   pub told : r ≡ grant_told said.answer
   pub header : n' ≡ header_put n said.header
 
 pub record ReleasesSo (n S I : List ℕ) (row generation : ℕ) (r : ℕ) (n' S' I' : List ℕ) : Type 0 where
-  pub said : Replied
+  pub said : Answered (Unit {0})
   pub promise : Releases (header_in n) S I row generation said S' I'
   pub told : r ≡ reply_told said.answer
   pub header : n' ≡ header_put n said.header
 
 pub record LooksUpSo (h : AtlasHeader) (S I : List ℕ) (row generation : ℕ) (r : HostGrant) : Type 0 where
-  pub said : Grant
+  pub said : Result Live Refusal
   pub promise : LooksUp (header_of h) S I row generation said
   pub told : r ≡ grant_told said
 
 pub record ListsSo (h : AtlasHeader) (S I out : List ℕ) (r : HostCount) (out' : List ℕ) : Type 0 where
-  pub said : Listing
+  pub said : Result ℕ Refusal
   pub promise : Lists (header_of h) S I out said out'
   pub told : r ≡ count_told said

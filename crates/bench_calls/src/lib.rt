@@ -8,8 +8,8 @@ ghost use Rattle.rules.specs.Prelude.{Passes};
 ghost use Rattle.bench_calls.specs.Told.{header_in, header_put, AllocatesSo, ReleasesSo, LooksUpSo, ListsSo};
 
 use allocate::allocate_unaudited;
-use hosts::told::{count_told, grant_told, reply_told};
-use hosts::values::{AtlasHeader, HostCount, HostGrant, header_of};
+use hosts::told::reply_told;
+use hosts::values::{AtlasHeader, HostCount, HostGrant};
 use listing::list::list_unaudited;
 use numbers::index::{ItemIndex, ShelfIndex};
 use numbers::limits::Limits;
@@ -69,10 +69,8 @@ pub fn bench_allocate(
 {
     let h = header_in(header);
     let said = allocate_unaudited(h, shelves, items, w, height);
-    let after = said.header;
-    put_header(header, after);
-    let answer = said.answer;
-    grant_told(answer)
+    put_header(header, said.header);
+    HostGrant::from(said.answer)
 }
 
 pub fn bench_release(
@@ -87,10 +85,8 @@ pub fn bench_release(
 {
     let h = header_in(header);
     let said = release_unaudited(h, shelves, items, row, generation);
-    let after = said.header;
-    put_header(header, after);
-    let answer = said.answer;
-    reply_told(answer)
+    put_header(header, said.header);
+    reply_told(said.answer)
 }
 
 pub fn bench_look_up(
@@ -103,14 +99,12 @@ pub fn bench_look_up(
     requires { Passes (header_of header) shelves.now items.now }
     ensures { LooksUpSo header shelves.now items.now row generation result }
 {
-    let h = header_of(header);
-    grant_told(look_up_unaudited(h, shelves, items, row, generation))
+    HostGrant::from(look_up_unaudited(Header::from(header), shelves, items, row, generation))
 }
 
 pub fn bench_list(header: AtlasHeader, shelves: &[u16], items: &[u16], out: &mut [u16]) -> HostCount
     requires { Passes (header_of header) shelves.now items.now }
     ensures { ListsSo header shelves.now items.now out.old result out.new }
 {
-    let h = header_of(header);
-    count_told(list_unaudited(h, shelves, items, out))
+    HostCount::from(list_unaudited(Header::from(header), shelves, items, out))
 }

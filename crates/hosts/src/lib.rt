@@ -4,21 +4,17 @@
 
 ghost use Rattle.hosts.specs.Told.{AllocatesHere, ReleasesHere, ClearsHere};
 
+use crate::told::reply_told;
 use crate::values::{AtlasHeader, HostGrant};
+use rows::header::Header;
 
 pub mod told;
 pub mod values;
 
-// A call's answer, and the header after it.
+// What a host is told of a call, and the header after it.
 #[derive(Clone, Copy)]
-pub struct HostAllocated {
-    pub answer: HostGrant,
-    pub header: AtlasHeader,
-}
-
-#[derive(Clone, Copy)]
-pub struct HostReplied {
-    pub answer: u32,
+pub struct HostAnswered<T> {
+    pub answer: T,
     pub header: AtlasHeader,
 }
 
@@ -28,15 +24,13 @@ pub fn allocate(
     items: &mut [u16],
     w: i32,
     height: i32,
-) -> HostAllocated
+) -> HostAnswered<HostGrant>
     ensures { AllocatesHere h shelves.old items.old w height result.answer result.header shelves.new items.new }
 {
-    let said = allocate::allocate(values::header_of(h), shelves, items, w, height);
-    let header = values::host_header(said.header);
-    let answer = said.answer;
-    HostAllocated {
-        answer: told::grant_told(answer),
-        header,
+    let said = allocate::allocate(Header::from(h), shelves, items, w, height);
+    HostAnswered {
+        answer: HostGrant::from(said.answer),
+        header: AtlasHeader::from(said.header),
     }
 }
 
@@ -46,26 +40,22 @@ pub fn release(
     items: &mut [u16],
     row: u16,
     generation: u16,
-) -> HostReplied
+) -> HostAnswered<u32>
     ensures { ReleasesHere h shelves.old items.old row generation result.answer result.header shelves.new items.new }
 {
-    let said = batch::release(values::header_of(h), shelves, items, row, generation);
-    let header = values::host_header(said.header);
-    let answer = said.answer;
-    HostReplied {
-        answer: told::reply_told(answer),
-        header,
+    let said = batch::release(Header::from(h), shelves, items, row, generation);
+    HostAnswered {
+        answer: reply_told(said.answer),
+        header: AtlasHeader::from(said.header),
     }
 }
 
-pub fn clear(h: AtlasHeader, shelves: &mut [u16], items: &mut [u16]) -> HostReplied
+pub fn clear(h: AtlasHeader, shelves: &mut [u16], items: &mut [u16]) -> HostAnswered<u32>
     ensures { ClearsHere h shelves.old items.old result.answer result.header shelves.new items.new }
 {
-    let said = create::clear(values::header_of(h), shelves, items);
-    let header = values::host_header(said.header);
-    let answer = said.answer;
-    HostReplied {
-        answer: told::reply_told(answer),
-        header,
+    let said = create::clear(Header::from(h), shelves, items);
+    HostAnswered {
+        answer: reply_told(said.answer),
+        header: AtlasHeader::from(said.header),
     }
 }

@@ -1,7 +1,4 @@
 // A host's structs, in C's layout. Every answer starts with a number of document 01: 0 is success, and a refusal has zeros beside its number.
-ghost use Rattle.std.specs.Prelude.{◌≡◌};
-ghost use Rattle.hosts.specs.Values.{header_of, host_header};
-
 use numbers::index::{ItemIndex, ShelfIndex};
 use numbers::limits::Limits;
 use rows::header::Header;
@@ -25,7 +22,7 @@ pub struct AtlasHeader {
 
 // To allocate and look-up: the id, and the corners of the rectangle. Six u16 would come back packed in two registers, which costs: these come back in memory.
 #[repr(C)]
-#[derive(Clone, Copy)]
+#[derive(Clone, Copy, Default)]
 pub struct HostGrant {
     pub answer: u32,
     pub row: u32,
@@ -47,7 +44,7 @@ pub struct HostCreated {
 
 // To list: how many items are listed.
 #[repr(C)]
-#[derive(Clone, Copy)]
+#[derive(Clone, Copy, Default)]
 pub struct HostCount {
     pub answer: u32,
     pub count: u32,
@@ -55,7 +52,7 @@ pub struct HostCount {
 
 // To occupied and free space.
 #[repr(C)]
-#[derive(Clone, Copy)]
+#[derive(Clone, Copy, Default)]
 pub struct HostArea {
     pub answer: u32,
     pub area: u32,
@@ -63,7 +60,7 @@ pub struct HostArea {
 
 // To size: width and height, as they were given to create.
 #[repr(C)]
-#[derive(Clone, Copy)]
+#[derive(Clone, Copy, Default)]
 pub struct HostExtent {
     pub answer: u32,
     pub width: u32,
@@ -72,7 +69,7 @@ pub struct HostExtent {
 
 // To is_empty: 1 where nothing is live, else 0.
 #[repr(C)]
-#[derive(Clone, Copy)]
+#[derive(Clone, Copy, Default)]
 pub struct HostVacancy {
     pub answer: u32,
     pub vacant: u32,
@@ -80,7 +77,7 @@ pub struct HostVacancy {
 
 // To save: how many bytes the image has.
 #[repr(C)]
-#[derive(Clone, Copy)]
+#[derive(Clone, Copy, Default)]
 pub struct HostSaved {
     pub answer: u32,
     pub length: u32,
@@ -103,41 +100,51 @@ pub struct HostBatched {
     pub header: AtlasHeader,
 }
 
-pub fn header_of(h: AtlasHeader) -> Header
-    ensures { result ≡ header_of h }
-{
-    Header {
-        limits: Limits {
-            width: h.width,
-            height: h.height,
-            align_width: h.align_width,
-            align_height: h.align_height,
-            vertical: h.vertical,
-            shelf_width: h.shelf_width,
-        },
-        used_shelves: h.used_shelves,
-        used_items: h.used_items,
-        free_items: ItemIndex(h.free_items),
-        free_shelves: ShelfIndex(h.free_shelves),
-        occupied: h.occupied,
+impl From<AtlasHeader> for Header {
+    ghost use Rattle.std.specs.Prelude.{◌≡◌};
+    ghost use Rattle.hosts.specs.Values.{header_of};
+
+    ghost from_gives = { λ h header. header ≡ header_of h };
+
+    fn from(h: AtlasHeader) -> Header {
+        Header {
+            limits: Limits {
+                width: h.width,
+                height: h.height,
+                align_width: h.align_width,
+                align_height: h.align_height,
+                vertical: h.vertical,
+                shelf_width: h.shelf_width,
+            },
+            used_shelves: h.used_shelves,
+            used_items: h.used_items,
+            free_items: ItemIndex(h.free_items),
+            free_shelves: ShelfIndex(h.free_shelves),
+            occupied: h.occupied,
+        }
     }
 }
 
-pub fn host_header(h: Header) -> AtlasHeader
-    ensures { result ≡ host_header h }
-{
-    let l = h.limits;
-    AtlasHeader {
-        width: l.width,
-        height: l.height,
-        align_width: l.align_width,
-        align_height: l.align_height,
-        vertical: l.vertical,
-        shelf_width: l.shelf_width,
-        used_shelves: h.used_shelves,
-        used_items: h.used_items,
-        free_items: h.free_items.0,
-        free_shelves: h.free_shelves.0,
-        occupied: h.occupied,
+impl From<Header> for AtlasHeader {
+    ghost use Rattle.std.specs.Prelude.{◌≡◌};
+    ghost use Rattle.hosts.specs.Values.{host_header};
+
+    ghost from_gives = { λ h header. header ≡ host_header h };
+
+    fn from(h: Header) -> AtlasHeader {
+        let l = h.limits;
+        AtlasHeader {
+            width: l.width,
+            height: l.height,
+            align_width: l.align_width,
+            align_height: l.align_height,
+            vertical: l.vertical,
+            shelf_width: l.shelf_width,
+            used_shelves: h.used_shelves,
+            used_items: h.used_items,
+            free_items: h.free_items.0,
+            free_shelves: h.free_shelves.0,
+            occupied: h.occupied,
+        }
     }
 }

@@ -1,19 +1,17 @@
 -- What the exported functions say to a host. Assumes nothing.
-use Rattle.std.specs.Prelude.{◌≡◌}
-use Rattle.numbers.specs.Library.{ℕ, ap, sym, ◌∙◌, List, ℤ}
+use Rattle.std.specs.Prelude.{◌≡◌, Result}
+use Rattle.numbers.specs.Library.{ℕ, ap, sym, ◌∙◌, Bool, List, ℤ}
+use Rattle.numbers.specs.declared.refusal.Refusal.{Refusal}
+use Rattle.rows.specs.declared.live.Live.{Live}
 use Rattle.audit.specs.Verdicts.{Exact, one_verdict}
 use Rattle.audit.specs.declared.Verdict.{Verdict}
 use Rattle.audit.specs.declared.Verdict.TheVariants.{Passes, Rule1, Rule2, Rule3, Rules5To7}
 use Rattle.promises.specs.Prelude.{Creates, LooksUp, TellsOccupied, TellsFreeSpace, TellsSize, TellsEmpty, Lists}
-use Rattle.promises.specs.declared.{answers.Creation.Creation, answers.Grant.Grant, answers.Listing.Listing, answers.Area.Area, answers.Extent.Extent, answers.Vacancy.Vacancy}
-use Rattle.promises.specs.declared.answers.Reply.{Reply}
+use Rattle.promises.specs.declared.{answers.Answered.Answered, answers.Sides.Sides}
 use Rattle.image_promises.specs.Promises.{Saves, Loads}
-use Rattle.image_promises.specs.declared.answers.Saving.{Saving}
-use Rattle.image_promises.specs.declared.answers.Saving.TheVariants as saving
 use Rattle.batch_rules.specs.Batch.{Batches}
-use Rattle.batch_rules.specs.declared.values.Batched.{Batched}
 use Rattle.hosts.specs.Values.{header_of, host_header}
-use Rattle.hosts.specs.Told.{reply_told, created_told, grant_told, count_told, area_told, extent_told, vacancy_told}
+use Rattle.hosts.specs.Told.{reply_told, created_told, grant_told, count_told, area_told, extent_told, vacancy_told, saved_told, batch_told}
 use Rattle.hosts.specs.declared.{values.HostCreated.HostCreated, values.HostGrant.HostGrant, values.HostCount.HostCount, values.HostArea.HostArea}
 use Rattle.hosts.specs.declared.{values.HostExtent.HostExtent, values.HostVacancy.HostVacancy, values.HostSaved.HostSaved, values.HostLoaded.HostLoaded, values.HostBatched.HostBatched}
 use Rattle.hosts.specs.declared.values.AtlasHeader.{AtlasHeader}
@@ -44,60 +42,56 @@ one_answer h S I r q a b = a.answer ∙ ap answer_of (one_verdict (header_of h) 
 -- ---- the other calls: the public call's promise, on a host's header, and its answer told
 
 pub record CreatesHere (S I : List ℕ) (w height alignWidth alignHeight vertical columns : ℤ) (r : HostCreated) (S' I' : List ℕ) : Type 0 where
-  pub said : Creation
+  pub said : Result ℕ Refusal
   pub header : AtlasHeader
   pub promise : Creates S I w height alignWidth alignHeight vertical columns (record { answer = said; header = header_of header }) S' I'
   pub told : r ≡ created_told said header
 
 pub record LooksUpHere (h : AtlasHeader) (S I : List ℕ) (row generation : ℕ) (r : HostGrant) : Type 0 where
-  pub said : Grant
+  pub said : Result Live Refusal
   pub promise : LooksUp (header_of h) S I row generation said
   pub told : r ≡ grant_told said
 
 pub record ListsHere (h : AtlasHeader) (S I out : List ℕ) (r : HostCount) (out' : List ℕ) : Type 0 where
-  pub said : Listing
+  pub said : Result ℕ Refusal
   pub promise : Lists (header_of h) S I out said out'
   pub told : r ≡ count_told said
 
 pub record OccupiedHere (h : AtlasHeader) (S I : List ℕ) (r : HostArea) : Type 0 where
-  pub said : Area
+  pub said : Result ℕ Refusal
   pub promise : TellsOccupied (header_of h) S I said
   pub told : r ≡ area_told said
 
 pub record FreeSpaceHere (h : AtlasHeader) (S I : List ℕ) (r : HostArea) : Type 0 where
-  pub said : Area
+  pub said : Result ℕ Refusal
   pub promise : TellsFreeSpace (header_of h) S I said
   pub told : r ≡ area_told said
 
 pub record SizeHere (h : AtlasHeader) (S I : List ℕ) (r : HostExtent) : Type 0 where
-  pub said : Extent
+  pub said : Result Sides Refusal
   pub promise : TellsSize (header_of h) S I said
   pub told : r ≡ extent_told said
 
 pub record EmptyHere (h : AtlasHeader) (S I : List ℕ) (r : HostVacancy) : Type 0 where
-  pub said : Vacancy
+  pub said : Result Bool Refusal
   pub promise : TellsEmpty (header_of h) S I said
   pub told : r ≡ vacancy_told said
 
 -- ---- the saved form
 
-abbrev pub saved_told : Saving → HostSaved
-saved_told (saving.Saved n) = record { answer = 0; length = n }
-saved_told (saving.Refused n) = record { answer = n; length = 0 }
-
 pub record SavesHere (h : AtlasHeader) (S I out : List ℕ) (r : HostSaved) (out' : List ℕ) : Type 0 where
-  pub said : Saving
+  pub said : Result ℕ Refusal
   pub promise : Saves (header_of h) S I out said out'
   pub told : r ≡ saved_told said
 
 pub record LoadsHere (image S I : List ℕ) (r : HostLoaded) (S' I' : List ℕ) : Type 0 where
-  pub said : Reply
+  pub said : Result (Unit {0}) Refusal
   pub promise : Loads image S I (record { answer = said; header = header_of r.header }) S' I'
   pub told : r.answer ≡ reply_told said
 
 -- ---- a batch
 
 pub record BatchesHere (h : AtlasHeader) (S I l out : List ℕ) (r : HostBatched) (S' I' out' : List ℕ) : Type 0 where
-  pub said : Batched
+  pub said : Answered ℕ
   pub promise : Batches (header_of h) S I l out said S' I' out'
-  pub told : r ≡ record { answer = said.answer; count = said.count; header = host_header said.header }
+  pub told : r ≡ batch_told said.answer (host_header said.header)

@@ -1,54 +1,51 @@
 // The calls of a host in C or Rust, over numbers, lent tables and plain structs. plytimber_c exports them.
 #![tactic(auto)]
 
-ghost use Rattle.std.specs.Prelude.{◌≡◌};
 ghost use Rattle.hosts.specs.Told.{AllocatesHere, ReleasesHere, ClearsHere};
-ghost use Rattle.plytimber.specs.Host.{failing, AuditSays, CreatesHere, LooksUpHere, ListsHere, OccupiedHere, FreeSpaceHere, SizeHere, EmptyHere, saved_told, SavesHere, LoadsHere, BatchesHere};
+ghost use Rattle.plytimber.specs.Host.{AuditSays, CreatesHere, LooksUpHere, ListsHere, OccupiedHere, FreeSpaceHere, SizeHere, EmptyHere, SavesHere, LoadsHere, BatchesHere};
 
 use audit::Verdict;
-use hosts::told;
 use hosts::values::{
     AtlasHeader, HostArea, HostBatched, HostCount, HostCreated, HostExtent, HostGrant, HostLoaded,
-    HostSaved, HostVacancy, header_of, host_header,
+    HostSaved, HostVacancy,
 };
-use image_promises::answers::Saving;
+use numbers::refusal::Refusal;
 use queries::tell;
-
-// Document 01's answers to a call.
-const DONE: u32 = 0;
-
-const AUDIT_FAILS: u32 = 3;
+use rows::header::Header;
 
 // An answer of document 01, and beside it the rule: 0 where all hold, else the first that fails, 5 for one of 5 to 7.
 #[repr(C)]
-#[derive(Clone, Copy)]
+#[derive(Clone, Copy, Default)]
 pub struct AuditAnswer {
     pub answer: u32,
     pub rule: u32,
 }
 
-fn fails(rule: u32) -> AuditAnswer
-    ensures { result ≡ failing rule }
-{
-    AuditAnswer {
-        answer: AUDIT_FAILS,
-        rule,
+impl From<Verdict> for AuditAnswer {
+    ghost use Rattle.std.specs.Prelude.{◌≡◌};
+    ghost use Rattle.plytimber.specs.Host.{answer_of};
+
+    ghost from_gives = { λ verdict answer. answer ≡ answer_of verdict };
+
+    fn from(verdict: Verdict) -> AuditAnswer {
+        let rule = match verdict {
+            Verdict::Passes => return AuditAnswer::default(),
+            Verdict::Rule1 => 1,
+            Verdict::Rule2 => 2,
+            Verdict::Rule3 => 3,
+            Verdict::Rules5To7 => 5,
+        };
+        AuditAnswer {
+            answer: Refusal::Audit.number() as u32,
+            rule,
+        }
     }
 }
 
 pub fn plytimber_audit(header: AtlasHeader, shelves: &[u16], items: &[u16]) -> AuditAnswer
     ensures { AuditSays header shelves.now items.now result }
 {
-    match audit::audit(header_of(header), shelves, items) {
-        Verdict::Passes => AuditAnswer {
-            answer: DONE,
-            rule: 0,
-        },
-        Verdict::Rule1 => fails(1),
-        Verdict::Rule2 => fails(2),
-        Verdict::Rule3 => fails(3),
-        Verdict::Rules5To7 => fails(5),
-    }
+    AuditAnswer::from(audit::audit(Header::from(header), shelves, items))
 }
 
 // ---- the calls that change an atlas: the header is lent and changed in place
@@ -62,8 +59,7 @@ pub fn plytimber_allocate(
 ) -> HostGrant
     ensures { AllocatesHere h.old shelves.old items.old w height result h.new shelves.new items.new }
 {
-    let v = *h;
-    let granted = hosts::allocate(v, shelves, items, w, height);
+    let granted = hosts::allocate(*h, shelves, items, w, height);
     *h = granted.header;
     granted.answer
 }
@@ -77,8 +73,7 @@ pub fn plytimber_release(
 ) -> u32
     ensures { ReleasesHere h.old shelves.old items.old row generation result h.new shelves.new items.new }
 {
-    let v = *h;
-    let released = hosts::release(v, shelves, items, row, generation);
+    let released = hosts::release(*h, shelves, items, row, generation);
     *h = released.header;
     released.answer
 }
@@ -86,8 +81,7 @@ pub fn plytimber_release(
 pub fn plytimber_clear(h: &mut AtlasHeader, shelves: &mut [u16], items: &mut [u16]) -> u32
     ensures { ClearsHere h.old shelves.old items.old result h.new shelves.new items.new }
 {
-    let v = *h;
-    let cleared = hosts::clear(v, shelves, items);
+    let cleared = hosts::clear(*h, shelves, items);
     *h = cleared.header;
     cleared.answer
 }
@@ -106,7 +100,7 @@ pub fn plytimber_create(
 ) -> HostCreated
     ensures { CreatesHere shelves.old items.old w height align_width align_height vertical columns result shelves.new items.new }
 {
-    let made = create::create(
+    HostCreated::from(create::create(
         shelves,
         items,
         w,
@@ -115,10 +109,7 @@ pub fn plytimber_create(
         align_height,
         vertical,
         columns,
-    );
-    let header = host_header(made.header);
-    let answer = made.answer;
-    told::created_told(answer, header)
+    ))
 }
 
 // ---- the calls that change nothing
@@ -132,73 +123,52 @@ pub fn plytimber_look_up(
 ) -> HostGrant
     ensures { LooksUpHere h shelves.now items.now row generation result }
 {
-    told::grant_told(tell::look_up(header_of(h), shelves, items, row, generation))
+    HostGrant::from(tell::look_up(Header::from(h), shelves, items, row, generation))
 }
 
 // Six numbers a record: row, generation, x0, y0, x1, y1.
 pub fn plytimber_list(h: AtlasHeader, shelves: &[u16], items: &[u16], out: &mut [u16]) -> HostCount
     ensures { ListsHere h shelves.now items.now out.old result out.new }
 {
-    told::count_told(listing::list::list(header_of(h), shelves, items, out))
+    HostCount::from(listing::list::list(Header::from(h), shelves, items, out))
 }
 
 pub fn plytimber_occupied(h: AtlasHeader, shelves: &[u16], items: &[u16]) -> HostArea
     ensures { OccupiedHere h shelves.now items.now result }
 {
-    told::area_told(tell::occupied(header_of(h), shelves, items))
+    HostArea::from(tell::occupied(Header::from(h), shelves, items))
 }
 
 pub fn plytimber_free_space(h: AtlasHeader, shelves: &[u16], items: &[u16]) -> HostArea
     ensures { FreeSpaceHere h shelves.now items.now result }
 {
-    told::area_told(tell::free_space(header_of(h), shelves, items))
+    HostArea::from(tell::free_space(Header::from(h), shelves, items))
 }
 
 pub fn plytimber_size(h: AtlasHeader, shelves: &[u16], items: &[u16]) -> HostExtent
     ensures { SizeHere h shelves.now items.now result }
 {
-    told::extent_told(tell::size(header_of(h), shelves, items))
+    HostExtent::from(tell::size(Header::from(h), shelves, items))
 }
 
 pub fn plytimber_is_empty(h: AtlasHeader, shelves: &[u16], items: &[u16]) -> HostVacancy
     ensures { EmptyHere h shelves.now items.now result }
 {
-    told::vacancy_told(tell::is_empty(header_of(h), shelves, items))
+    HostVacancy::from(tell::is_empty(Header::from(h), shelves, items))
 }
 
 // ---- the saved form
 
-fn saved_told(answer: Saving) -> HostSaved
-    ensures { result ≡ saved_told answer }
-{
-    match answer {
-        Saving::Saved(n) => HostSaved {
-            answer: 0,
-            length: n,
-        },
-        Saving::Refused(n) => HostSaved {
-            answer: n as u32,
-            length: 0,
-        },
-    }
-}
-
 pub fn plytimber_save(h: AtlasHeader, shelves: &[u16], items: &[u16], out: &mut [u8]) -> HostSaved
     ensures { SavesHere h shelves.now items.now out.old result out.new }
 {
-    saved_told(save::save(header_of(h), shelves, items, out))
+    HostSaved::from(save::save(Header::from(h), shelves, items, out))
 }
 
 pub fn plytimber_load(image: &[u8], shelves: &mut [u16], items: &mut [u16]) -> HostLoaded
     ensures { LoadsHere image.now shelves.old items.old result shelves.new items.new }
 {
-    let loaded = load::load(image, shelves, items);
-    let header = host_header(loaded.header);
-    let answer = loaded.answer;
-    HostLoaded {
-        answer: told::reply_told(answer),
-        header,
-    }
+    HostLoaded::from(load::load(image, shelves, items))
 }
 
 // ---- beyond document 01: a batch on one audit
@@ -213,11 +183,5 @@ pub fn plytimber_batch(
 ) -> HostBatched
     ensures { BatchesHere h shelves.old items.old requests.now out.old result shelves.new items.new out.new }
 {
-    let served = batch::batch(header_of(h), shelves, items, requests, out);
-    let header = host_header(served.header);
-    HostBatched {
-        answer: served.answer as u32,
-        count: served.count as u32,
-        header,
-    }
+    HostBatched::from(batch::batch(Header::from(h), shelves, items, requests, out))
 }

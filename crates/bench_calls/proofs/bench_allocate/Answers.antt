@@ -9,6 +9,6 @@ returns c =
     record {
       said = c.allocate_unaudited-said.result;
       promise = rw c.header_in-h.ensures at (simp (to_z-of_z c.ranges.w, to_z-of_z c.ranges.height) at c.allocate_unaudited-said.ensures);
-      told = c.grant_told.ensures;
+      told = c.from.ensures;
       header = c.put_header.ensures;
     }

@@ -1,12 +1,12 @@
 use Rattle.bench_calls.proofs.bench_look_up.Goals as goal
 
 pub look_up_unaudited-requires : goal.look_up_unaudited-requires
-look_up_unaudited-requires c = rw c.header_of-h.ensures c.requires
+look_up_unaudited-requires c = rw c.from.ensures c.requires
 
 pub returns : goal.returns
 returns c =
     record {
       said = c.look_up_unaudited.result;
-      promise = rw c.header_of-h.ensures at c.look_up_unaudited.ensures;
-      told = c.grant_told.ensures;
+      promise = rw c.from.ensures at c.look_up_unaudited.ensures;
+      told = c.from-2.ensures;
     }

@@ -5,6 +5,6 @@ pub returns : goal.returns
 returns c =
     record {
       said = c.allocate-said.result.answer;
-      promise = rw c.host_header-header.ensures (rw c.header_of.ensures at (simp (to_z-of_z c.ranges.w, to_z-of_z c.ranges.height) at c.allocate-said.ensures));
-      told = c.grant_told.ensures;
+      promise = rw c.from-3.ensures (rw c.from.ensures at (simp (to_z-of_z c.ranges.w, to_z-of_z c.ranges.height) at c.allocate-said.ensures));
+      told = c.from-2.ensures;
     }

@@ -4,6 +4,6 @@ pub returns : goal.returns
 returns c =
     record {
       said = c.clear-said.result.answer;
-      promise = rw c.host_header-header.ensures (rw c.header_of.ensures at c.clear-said.ensures);
+      promise = rw c.from-2.ensures (rw c.from.ensures at c.clear-said.ensures);
       told = c.reply_told.ensures;
     }

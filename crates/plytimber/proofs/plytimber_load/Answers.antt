@@ -1,4 +1,5 @@
+use Rattle.numbers.specs.Library.{refl}
 use Rattle.plytimber.proofs.plytimber_load.Goals as goal
 
 pub returns : goal.returns
-returns c = record { said = c.load-loaded.result.answer; promise = rw c.host_header-header.ensures c.load-loaded.ensures; told = c.reply_told.ensures }
+returns c = rw c.from.ensures (record { said = c.load.result.answer; promise = c.load.ensures; told = refl })
