@@ -75,22 +75,22 @@ fn past(p: Passed, i: ItemRow) -> Passed
 }
 
 // On past the live items. A loop of their own, since most items are live: it carries no more than they need.
-fn lives(items: &[u16], used: u16, on: u16, from: Passed) -> Option<Passed>
+fn lives(items: &[u16], used: u16, on: u16, from: Passed) -> Passed
     requires { (used ≤ item_capacity items.now) × Kept items.now used from }
-    ensures { IfSome result (LivesPast items.now used on from) }
+    ensures { LivesPast items.now used on from result }
 {
     let mut p = from;
     while p.cur < used as usize {
         let i = item::item_from(items, p.cur, p.start);
         if !live_of(on, i) {
-            return Some(p);
+            return p;
         }
         if !fits(p.prev, p.x, i) {
-            return None;
+            return p;
         }
         p = past(p, i);
     }
-    Some(p)
+    p
 }
 
 // Before the first item of a shelf. `met` items were passed on the shelves before it, and the widths are or-ed to `all`, which is theirs.
@@ -148,7 +148,7 @@ pub fn items_right(
     let mut free: u32 = 0;
     let mut gap: u32 = 0;
     while p.cur < h.used_items as usize {
-        p = lives(items, h.used_items, on, p)?;
+        p = lives(items, h.used_items, on, p);
         if p.cur < h.used_items as usize {
             let i = item::item_from(items, p.cur, p.start);
             if !fits(p.prev, p.x, i) {

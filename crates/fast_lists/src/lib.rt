@@ -31,7 +31,8 @@ pub fn free_list(h: Header, items: &[u16], on: u16, first: usize, free: u32) -> 
 {
     let mut prev: u16 = NO_ROW;
     let mut cur: usize = first;
-    for _ in 0..free {
+    let mut left = free;
+    while 0 < left {
         if cur >= h.used_items as usize {
             return false;
         }
@@ -44,6 +45,7 @@ pub fn free_list(h: Header, items: &[u16], on: u16, first: usize, free: u32) -> 
         }
         prev = cur as u16;
         cur = i.next_unallocated.0 as usize;
+        left -= 1;
     }
     cur == NO_ROW as usize
 }
@@ -54,7 +56,8 @@ pub fn freed_items(h: Header, items: &[u16], head: usize, rest: u16) -> bool
     ensures { Decides result (FreedItems h items.now × (length (freed_items_met h items.now) ≡ rest)) }
 {
     let mut row: usize = head;
-    for _ in 0..rest {
+    let mut left = rest;
+    while 0 < left {
         if row >= h.used_items as usize {
             return false;
         }
@@ -63,6 +66,7 @@ pub fn freed_items(h: Header, items: &[u16], head: usize, rest: u16) -> bool
             return false;
         }
         row = i.next.0 as usize;
+        left -= 1;
     }
     row == NO_ROW as usize
 }
