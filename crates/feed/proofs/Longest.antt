@@ -10,7 +10,7 @@ use Rattle.rules.specs.Step as call
 use Rattle.laws.proofs.Stored.Few.{list_few}
 use Rattle.promises.specs.Prelude.{items_told}
 use Rattle.texts.specs.Answer.{text_of}
-use Rattle.texts.specs.Lines.{newlines, newlines_append, one_line, PutsLines}
+use Rattle.texts.specs.Lines.{newlines, newlines_append, one_line, one_refusal, PutsLines}
 use Rattle.texts.specs.declared.answer.Answer.TheVariants as answer
 use Rattle.feed.specs.Answers.{Asked}
 use Rattle.script_rules.specs.Answers.{call_of, value_text, outcome_text}
@@ -43,7 +43,7 @@ value_lines (call.vacant b) = omega arith
 
 outcome_lines : (o : Outcome Value) → newlines (outcome_text o) ≤ item_count_of o + 1
 unfolding outcome_text
-outcome_lines (refused n) = omega (arith, one_line (answer.No n))
+outcome_lines (refused n) = omega (arith, one_refusal n)
 outcome_lines (gives v) = value_lines v
 
 -- ---- only a list tells items, and it has no more than the table has rows

@@ -4,6 +4,7 @@
 
 use lines::command::{Change, Command, CreateArgs, Tell};
 use lines::read::read_line;
+use numbers::refusal::Refusal;
 use rows::live::Live;
 use std::io;
 use std::io::Read;
@@ -22,8 +23,8 @@ const ANSWERS: [[u32; 4]; 12] = [
     [4, 2, 1, 9],
     [5, 2, 0, 0],
     [5, 4294967295, 0, 0],
-    [6, 11, 0, 0],
-    [6, 8, 0, 0],
+    [6, 0, 0, 0],
+    [7, 0, 0, 0],
 ];
 
 fn put_signed(out: &mut [u8], at: usize, z: i32) -> usize {
@@ -133,7 +134,8 @@ fn answer_of(numbers: [u32; 4]) -> Answer {
         3 => Answer::Space(a, b),
         4 => Answer::Listed(live(a, b, c)),
         5 => Answer::End(a),
-        _ => Answer::No(narrow(a)),
+        6 => Answer::No(Refusal::NotReadable),
+        _ => Answer::No(Refusal::NoSuchItem),
     }
 }
 

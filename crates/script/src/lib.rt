@@ -40,7 +40,7 @@ pub fn step(
     ensures { Steps (Doing h shelves.old items.old (command_of line.now)) out.old at result shelves.new items.new out.new }
 {
     let Some(command) = read_line(line) else {
-        return say(h, out, at, Answer::No(Refusal::NotReadable.number()));
+        return say(h, out, at, Answer::No(Refusal::NotReadable));
     };
     match command {
         Command::Tell(asked) => tell(h, shelves, items, asked, out, at),

@@ -4,6 +4,7 @@ use Rattle.std.specs.Prelude.{◌≡◌, Option, Some, None, Result, Ok, Err}
 use Rattle.numbers.specs.Library.{ℕ, refl, ap, ◌∙◌, Bool, true, false, not, List}
 use Rattle.numbers.specs.Prelude.{Decides}
 use Rattle.numbers.specs.declared.refusal.Refusal.{Refusal}
+use Rattle.numbers.specs.declared.refusal.Refusal.TheVariants as refusal
 use Rattle.rows.specs.declared.{header.Header.Header, live.Live.Live}
 use Rattle.rules.specs.Prelude.{mapped, Outcome, Passes, Call, Value, NoSuchId, is_create, step_in, step_without, step, Leaves, header_kept, Answering, Answers, Asks, passes}
 use Rattle.rules.specs.Prelude.{Promise}
@@ -67,17 +68,17 @@ module _ (asked : ℕ → ℕ → Call) where
 
 -- ---- a line that is no command
 
-pub unreadable : (h : Header) (S I : List ℕ) → Doing h S I None h S I (text_of (answer.No 11))
+pub unreadable : (h : Header) (S I : List ℕ) → Doing h S I None h S I (text_of (answer.No refusal.NotReadable))
 unfolding Doing Promise Asks step step_in mapped Leaves header_kept is_create outcome_text
 unreadable h S I = passes tt (record { says = refl; leaves = unchanged })
 
 -- ---- an id that no item can have: the audit decides
 
 module _ (h : Header) (S I : List ℕ) {test : Bool} (d : Decides test (Passes h S I)) where
-  pub outside_3 : not test ≡ true → Calling h S I NoSuchId h S I (text_of (answer.No 3))
+  pub outside_3 : not test ≡ true → Calling h S I NoSuchId h S I (text_of (answer.No refusal.Audit))
   unfolding Calling Asks step_without is_create outcome_text
-  outside_3 e = fails_first NoSuchId (Texts (text_of (answer.No 3))) h S I d e refl refl refl
+  outside_3 e = fails_first NoSuchId (Texts (text_of (answer.No refusal.Audit))) h S I d e refl refl refl
 
-  pub outside_8 : not test ≡ false → Calling h S I NoSuchId h S I (text_of (answer.No 8))
+  pub outside_8 : not test ≡ false → Calling h S I NoSuchId h S I (text_of (answer.No refusal.NoSuchItem))
   unfolding Calling Asks step_in is_create outcome_text
-  outside_8 e = refuses NoSuchId (Texts (text_of (answer.No 8))) h S I d e 8 (λ p. refl) refl refl
+  outside_8 e = refuses NoSuchId (Texts (text_of (answer.No refusal.NoSuchItem))) h S I d e 8 (λ p. refl) refl refl

@@ -1,7 +1,6 @@
 -- What the script's commands ask of the rules, and the text of each outcome. Assumes nothing.
 use Rattle.std.specs.Prelude.{Option, Some, None, Result, Ok, Err}
 use Rattle.numbers.specs.Library.{ℕ, List, []}
-use Rattle.numbers.specs.Prelude.{refusal_number}
 use Rattle.numbers.specs.declared.refusal.Refusal.{Refusal}
 use Rattle.rows.specs.declared.live.Live.{Live}
 use Rattle.rules.specs.Prelude.{Outcome, refused, gives, Call, Value, columns_made, done, items, count, area, space, sides, vacant}
@@ -11,7 +10,7 @@ use Rattle.lines.specs.declared.{command.Command.Command, command.Tell.Tell, com
 use Rattle.lines.specs.declared.command.Command.TheVariants as command
 use Rattle.lines.specs.declared.command.Tell.TheVariants as tell
 use Rattle.lines.specs.declared.command.Change.TheVariants as change
-use Rattle.texts.specs.Answer.{text_of}
+use Rattle.texts.specs.Answer.{refusal_line, text_of}
 use Rattle.texts.specs.declared.answer.Answer.{Answer}
 use Rattle.texts.specs.declared.answer.Answer.TheVariants as answer
 use Rattle.script_rules.specs.Ids.{id_of}
@@ -65,19 +64,19 @@ value_text (vacant b) = []
 
 unfoldable pub outcome_text : Outcome Value → List ℕ
 unfolding value_text
-outcome_text (refused n) = text_of (answer.No n)
+outcome_text (refused n) = refusal_line n
 outcome_text (gives v) = value_text v
 
 -- ---- what the public calls answer, as the script's answers
 
 abbrev pub created : Result ℕ Refusal → Answer
 created (Ok columns) = answer.Made columns
-created (Err e) = answer.No (refusal_number e)
+created (Err e) = answer.No e
 
 abbrev pub granted : Result Live Refusal → Answer
 granted (Ok live) = answer.Item live
-granted (Err e) = answer.No (refusal_number e)
+granted (Err e) = answer.No e
 
 abbrev pub replied : Result (Unit {0}) Refusal → Answer
 replied (Ok t) = answer.Done
-replied (Err e) = answer.No (refusal_number e)
+replied (Err e) = answer.No e

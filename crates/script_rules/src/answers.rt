@@ -15,7 +15,7 @@ pub fn of_creation(c: Result<u16, Refusal>) -> Answer
 {
     match c {
         Ok(columns) => Answer::Made(columns),
-        Err(refusal) => Answer::No(refusal.number()),
+        Err(refusal) => Answer::No(refusal),
     }
 }
 
@@ -24,7 +24,7 @@ pub fn of_grant(g: Result<Live, Refusal>) -> Answer
 {
     match g {
         Ok(live) => Answer::Item(live),
-        Err(refusal) => Answer::No(refusal.number()),
+        Err(refusal) => Answer::No(refusal),
     }
 }
 
@@ -33,7 +33,7 @@ pub fn of_reply(reply: Result<(), Refusal>) -> Answer
 {
     match reply {
         Ok(()) => Answer::Done,
-        Err(refusal) => Answer::No(refusal.number()),
+        Err(refusal) => Answer::No(refusal),
     }
 }
 

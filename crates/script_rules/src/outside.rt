@@ -12,7 +12,7 @@ pub fn outside(h: Header, shelves: &[u16], items: &[u16]) -> Answer
     ensures { Calling h shelves.now items.now call.NoSuchId h shelves.now items.now (text_of result) }
 {
     if !audit::passes(h, shelves, items) {
-        return Answer::No(Refusal::Audit.number());
+        return Answer::No(Refusal::Audit);
     }
-    Answer::No(Refusal::NoSuchItem.number())
+    Answer::No(Refusal::NoSuchItem)
 }

@@ -2,6 +2,7 @@
 use Rattle.std.specs.Prelude.{◌≤◌, ◌≡◌, ◌++◌}
 use Rattle.numbers.specs.Library.{ℕ, refl, Bool, true, false, not, List, length, arith, le-ltb}
 use Rattle.numbers.specs.Prelude.{Decides, space_left}
+use Rattle.numbers.specs.declared.refusal.Refusal.TheVariants as refusal
 use Rattle.rows.specs.Prelude.{rows_few, items}
 use Rattle.rows.specs.declared.header.Header.{Header}
 use Rattle.rules.specs.Prelude.{mapped, atlas_in, Passes, list_in, ListIn, Totals, is_create, tells, step_in, step_without, Asks}
@@ -24,9 +25,9 @@ use Rattle.script_tells.specs.declared.list.Lines.{Lines}
 -- ---- where the audit decides
 
 module _ (h : Header) (S I : List ℕ) {test : Bool} (d : Decides test (Passes h S I)) where
-  pub space_3 : not test ≡ true → Calling h S I (tell_of tell.Space) h S I (text_of (answer.No 3))
+  pub space_3 : not test ≡ true → Calling h S I (tell_of tell.Space) h S I (text_of (answer.No refusal.Audit))
   unfolding Calling tell_of Asks step_without is_create outcome_text
-  space_3 e = fails_first Totals (Texts (text_of (answer.No 3))) h S I d e refl refl refl
+  space_3 e = fails_first Totals (Texts (text_of (answer.No refusal.Audit))) h S I d e refl refl refl
 
   pub space_told : not test ≡ false → (free : ℕ) → free ≡ space_left h.limits h.occupied
       → Calling h S I (tell_of tell.Space) h S I (text_of (answer.Space h.occupied free))
@@ -35,9 +36,9 @@ module _ (h : Header) (S I : List ℕ) {test : Bool} (d : Decides test (Passes h
       does Totals (Texts (text_of (answer.Space h.occupied free))) h S I d h S I e
       (λ p. (tells (atlas_in h S I) (told.space h.occupied free), rw (free_is h S I p, occupied_is h S I p, ← is), refl, stays h S I p))
 
-  pub list_3 : not test ≡ true → Calling h S I (tell_of tell.List) h S I (text_of (answer.No 3))
+  pub list_3 : not test ≡ true → Calling h S I (tell_of tell.List) h S I (text_of (answer.No refusal.Audit))
   unfolding Calling tell_of Asks step_without is_create outcome_text
-  list_3 e = fails_first (ListIn every_row) (Texts (text_of (answer.No 3))) h S I d e refl refl refl
+  list_3 e = fails_first (ListIn every_row) (Texts (text_of (answer.No refusal.Audit))) h S I d e refl refl refl
 
 -- the lines of all items, and then their count
 module _ (h : Header) (S I : List ℕ) {test : Bool} (d : Decides test (Passes h S I)) (passed : not test ≡ false) where

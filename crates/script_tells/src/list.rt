@@ -58,7 +58,7 @@ pub fn on_list(h: Header, shelves: &[u16], items: &[u16], out: &mut [u8], at: us
     ensures { Steps (Calling h shelves.now items.now (tell_of tell.List)) out.old at result shelves.now items.now out.new }
 {
     if !audit::passes(h, shelves, items) {
-        return say(h, out, at, Answer::No(Refusal::Audit.number()));
+        return say(h, out, at, Answer::No(Refusal::Audit));
     }
     let lines = put_rows(h, shelves, items, out, at);
     say(h, out, lines.at, Answer::End(lines.count))

@@ -35,7 +35,7 @@ fn on_space(h: Header, shelves: &[u16], items: &[u16]) -> Answer
     ensures { Calling h shelves.now items.now (tell_of tell.Space) h shelves.now items.now (text_of result) }
 {
     if !audit::passes(h, shelves, items) {
-        return Answer::No(Refusal::Audit.number());
+        return Answer::No(Refusal::Audit);
     }
     Answer::Space(h.occupied, queries::tell::space_left(h))
 }

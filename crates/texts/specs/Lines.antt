@@ -2,10 +2,10 @@
 use Rattle.std.specs.Prelude.{◌+◌, ◌*◌, ◌/◌, ◌%◌, ◌≤◌, ◌≡◌, ◌∷◌, ◌++◌}
 use Rattle.numbers.specs.Library.{ℕ, zero, suc, arith, Bool, true, false, refl, ap, ◌∙◌, List, [], eqb, ltb, length}
 use Rattle.numbers.specs.Library.{length-append, ne_eqb}
-use Rattle.numbers.specs.Prelude.{pick}
+use Rattle.numbers.specs.Prelude.{pick, refusal_number}
 use Rattle.rows.specs.declared.live.Live.{Live}
 use Rattle.texts.specs.Text.{spell, decimal, spaced, line}
-use Rattle.texts.specs.Answer.{live_line, text_of}
+use Rattle.texts.specs.Answer.{live_line, refusal_line, text_of}
 use Rattle.texts.specs.Put.{Puts, put_nothing, put_then}
 use Rattle.texts.specs.declared.answer.Answer.{Answer}
 use Rattle.texts.specs.declared.answer.Answer.TheVariants.{Done, Made, Item, Space, Listed, End, No}
@@ -66,6 +66,10 @@ newlines_live : (l : Live) → newlines (live_line l) ≡ 1
 unfolding live_line
 newlines_live l = newlines_line (decimal l.row) _ ∙ ap (λ (n : ℕ). n + 1) (newlines_decimal l.row)
 
+pub one_refusal : (number : ℕ) → newlines (refusal_line number) ≡ 1
+unfolding newlines
+one_refusal number = newlines_line (110 ∷ 111 ∷ []) (number ∷ [])
+
 pub one_line : (a : Answer) → newlines (text_of a) ≡ 1
 unfolding newlines
 one_line Done = newlines_line (111 ∷ 107 ∷ []) []
@@ -74,4 +78,4 @@ one_line (Item l) = omega (arith, newlines_append (111 ∷ 107 ∷ 32 ∷ []) (l
 one_line (Space occupied free) = newlines_line (115 ∷ 112 ∷ 97 ∷ 99 ∷ 101 ∷ []) (occupied ∷ free ∷ [])
 one_line (Listed l) = newlines_live l
 one_line (End count) = newlines_line (101 ∷ 110 ∷ 100 ∷ []) (count ∷ [])
-one_line (No number) = newlines_line (110 ∷ 111 ∷ []) (number ∷ [])
+one_line (No e) = one_refusal (refusal_number e)

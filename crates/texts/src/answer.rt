@@ -6,6 +6,7 @@ ghost use Rattle.texts.specs.Answer.{live_line, text_of};
 ghost use Rattle.texts.specs.declared.answer.Answer.TheVariants.{Made, Item, Space, End, No};
 
 use crate::text::{put_line, put_number, put_text};
+use numbers::refusal::Refusal;
 use rows::live::Live;
 
 #[derive(Clone, Copy)]
@@ -21,8 +22,8 @@ pub enum Answer {
     // To l: an item's line, and the count that ends the list.
     Listed(Live),
     End(u32),
-    // A refusal's number.
-    No(u16),
+    // Its number is told.
+    No(Refusal),
 }
 
 // The line of an item in a list.
@@ -70,10 +71,10 @@ fn put_end(out: &mut [u8], at: usize, count: u32) -> usize
     put_line(out, at, b"end", &[count])
 }
 
-fn put_no(out: &mut [u8], at: usize, number: u16) -> usize
-    ensures { PutsLines out.old at (text_of (No number)) out.new result }
+fn put_no(out: &mut [u8], at: usize, refusal: Refusal) -> usize
+    ensures { PutsLines out.old at (text_of (No refusal)) out.new result }
 {
-    put_line(out, at, b"no", &[number as u32])
+    put_line(out, at, b"no", &[refusal.number() as u32])
 }
 
 // An answer's line with its newline, of at most 39 bytes.
@@ -87,6 +88,6 @@ pub fn put_answer(out: &mut [u8], at: usize, answer: Answer) -> usize
         Answer::Space(occupied, free) => put_space(out, at, occupied, free),
         Answer::Listed(live) => put_live(out, at, live),
         Answer::End(count) => put_end(out, at, count),
-        Answer::No(number) => put_no(out, at, number),
+        Answer::No(refusal) => put_no(out, at, refusal),
     }
 }

@@ -6,7 +6,7 @@ use Rattle.script_rules.proofs.Told.{said, as_read, unreadable}
 use Rattle.script.proofs.step.Goals as goal
 
 pub returns-in_default : goal.returns-in_default
-returns-in_default c = as_read _ _ _ (sym c.in_default.ensures) (said (unreadable _ _ _) (rw c.number.ensures at c.say.ensures))
+returns-in_default c = as_read _ _ _ (sym c.in_default.ensures) (said (unreadable _ _ _) c.say.ensures)
 
 pub returns-in-Tell : goal.returns-in-Tell
 unfolding Doing

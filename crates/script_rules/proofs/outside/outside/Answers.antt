@@ -4,7 +4,7 @@ use Rattle.numbers.specs.Library.{ap, not}
 use Rattle.script_rules.proofs.outside.outside.Goals as goal
 
 pub returns-then-not-passes : goal.returns-then-not-passes
-returns-then-not-passes c = rw c.number.ensures (outside_3 _ _ _ c.passes.ensures (ap not c.if-not-passes.true))
+returns-then-not-passes c = outside_3 _ _ _ c.passes.ensures (ap not c.if-not-passes.true)
 
 pub returns : goal.returns
-returns c = rw c.number-2.ensures (outside_8 _ _ _ c.passes.ensures (ap not c.if-not-passes.false))
+returns c = outside_8 _ _ _ c.passes.ensures (ap not c.if-not-passes.false)

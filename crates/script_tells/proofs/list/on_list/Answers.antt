@@ -7,7 +7,7 @@ use Rattle.numbers.specs.Library.{ap, not}
 use Rattle.script_tells.proofs.list.on_list.Goals as goal
 
 pub returns-then-not-passes : goal.returns-then-not-passes
-returns-then-not-passes c = said (list_3 _ _ _ c.passes.ensures (ap not c.if-not-passes.true)) (rw c.number.ensures at c.say.ensures)
+returns-then-not-passes c = said (list_3 _ _ _ c.passes.ensures (ap not c.if-not-passes.true)) c.say.ensures
 
 -- tables that pass have the rows that are read
 pub put_rows-lines-requires : goal.put_rows-lines-requires

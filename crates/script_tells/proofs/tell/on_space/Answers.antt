@@ -4,7 +4,7 @@ use Rattle.numbers.specs.Library.{ap, not}
 use Rattle.script_tells.proofs.tell.on_space.Goals as goal
 
 pub returns-then-not-passes : goal.returns-then-not-passes
-returns-then-not-passes c = rw c.number.ensures (space_3 _ _ _ c.passes.ensures (ap not c.if-not-passes.true))
+returns-then-not-passes c = space_3 _ _ _ c.passes.ensures (ap not c.if-not-passes.true)
 
 pub returns : goal.returns
 returns c = space_told _ _ _ c.passes.ensures (ap not c.if-not-passes.false) _ c.space_left.ensures
