@@ -64,38 +64,46 @@ fn run(rt: &impl Print, image: &[u8], shelves: &mut [u16], items: &mut [u16]) ->
     rt.println("")
 }
 
-fn run_in(rt: &impl Print, image: &[u8], shelf_rows: u16, item_rows: u16) -> io::Result<()> {
+// What a record says of its image: the length, and how many rows of each table it is loaded into.
+#[derive(Clone, Copy)]
+struct Record {
+    length: usize,
+    shelf_rows: u16,
+    item_rows: u16,
+}
+
+fn run_in(rt: &impl Print, image: &[u8], record: Record) -> io::Result<()> {
     let mut shelves = [7u16; SHELVES];
     let mut items = [7u16; ITEMS];
-    let s = SHELVES.min(usize::from(shelf_rows) * ShelfRow::NUMBERS);
-    let i = ITEMS.min(usize::from(item_rows) * ItemRow::NUMBERS);
-    run(rt, image, &mut shelves[0..s], &mut items[0..i])
+    let s = SHELVES.min(usize::from(record.shelf_rows) * ShelfRow::NUMBERS);
+    let i = ITEMS.min(usize::from(record.item_rows) * ItemRow::NUMBERS);
+    let n = image.len().min(record.length);
+    run(rt, &image[0..n], &mut shelves[0..s], &mut items[0..i])
 }
 
-// One record, where there is one.
-fn turn(rt: &impl Print, input: &mut impl Read, image: &mut [u8]) -> io::Result<bool> {
+// The next record, where there is one; its image goes to the front.
+fn next_record(input: &mut impl Read, image: &mut [u8]) -> io::Result<Option<Record>> {
     let mut sizes = [0u8; 6];
     if read_full(input, &mut sizes)? < 6 {
-        return Ok(false);
+        return Ok(None);
     }
-    let n = image.len().min(usize::from(words::word(&sizes, 0)));
-    if read_full(input, &mut image[0..n])? < n {
-        return Ok(false);
+    let length = image.len().min(usize::from(words::word(&sizes, 0)));
+    if read_full(input, &mut image[0..length])? < length {
+        return Ok(None);
     }
-    run_in(
-        rt,
-        &image[0..n],
-        words::word(&sizes, 1),
-        words::word(&sizes, 2),
-    )?;
-    Ok(true)
+    Ok(Some(Record {
+        length,
+        shelf_rows: words::word(&sizes, 1),
+        item_rows: words::word(&sizes, 2),
+    }))
 }
 
-fn all_turns(rt: &impl Print, input: &mut impl Read, image: &mut [u8]) -> io::Result<()> {
+fn all_records(rt: &impl Print, input: &mut impl Read, image: &mut [u8]) -> io::Result<()> {
     for _ in 0..100000 {
-        if !turn(rt, input, image)? {
-            break;
-        }
+        let Some(record) = next_record(input, image)? else {
+            return Ok(());
+        };
+        run_in(rt, image, record)?;
     }
     Ok(())
 }
@@ -103,5 +111,5 @@ fn all_turns(rt: &impl Print, input: &mut impl Read, image: &mut [u8]) -> io::Re
 fn main(rt: HostRuntime) -> io::Result<()> {
     let mut input = rt.reader();
     let mut image = [0u8; LONGEST];
-    all_turns(&rt, &mut input, &mut image)
+    all_records(&rt, &mut input, &mut image)
 }
