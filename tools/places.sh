@@ -29,5 +29,5 @@ fields() {
 }
 # Answers of functions' proofs: how often and in how many files each text stands, `unfolding` lines left out.
 answers() {
-    perl -0777 -ne 's/--.*//g; while (/^(?:abbrev )?pub (\S+) : goal\.\S+[^\n]*\n(.*?)(?=^(?:abbrev )?pub |^record |^module |^data |\z)/msg) { my ($n, $b) = ($1, $2); $b =~ s/^unfolding .*$//mg; $b =~ s/\s+/ /g; $b =~ s/^ | $//g; $b =~ s/^\Q$n\E(?: [^ =]+)* = //; print "$ARGV\t$b\n" }' $(find crates -name Answers.antt | sort)
+    perl -0777 -ne 's/--.*//g; while (/^(?:abbrev )?pub (\S+) : goal\.\S+[^\n]*\n(.*?)(?=^(?:abbrev )?pub |^record |^module |^data |\z)/msg) { my ($n, $b) = ($1, $2); $b =~ s/^unfolding .*$//mg; $b =~ s/\s+/ /g; $b =~ s/^ | $//g; $b =~ s/^\Q$n\E(?: [^ =]+)* = //; print "$ARGV\t$b\n" }' $(find crates -name Answers.antt -not -path '*/out/*' | sort)
 }
