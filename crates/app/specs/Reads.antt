@@ -10,8 +10,8 @@ use Rattle.texts.specs.Put.{Puts, put_whole}
 use Rattle.input.specs.Kept.{short}
 use Rattle.feed.specs.Answers.{State}
 use Rattle.feed.specs.Feeds.{Feeds, feeds_none, feeds_then}
-use Rattle.feed.specs.Fed.{FeedsPart}
-use Rattle.feed.specs.declared.Fed.{Fed}
+use Rattle.feed.specs.Fed.{FeedsLine}
+use Rattle.feed.specs.declared.FedLine.{FedLine}
 
 -- A piece is fed whole; `kept` and `kept'` are kept of the line before and after it.
 pub record Answered (kept piece : List ℕ) (s s' : State) (kept' : List ℕ) : Type 0 where
@@ -63,8 +63,8 @@ unfolding items
 few_rows I e = rw (rows_are items I) (omega arith)
 
 -- the first n bytes of a piece, and then some more
-pub pending_more : (piece : List ℕ) (n : ℕ) (r : Fed) {k : List ℕ} {s m : State} {k₁ out : List ℕ} {filled : ℕ} {s' : State} {k₂ out' : List ℕ}
-    → Pending k (take n piece) s m k₁ out filled → FeedsPart k₁ (after n piece) out filled m s' r k₂ out'
+pub pending_more : (piece : List ℕ) (n : ℕ) (r : FedLine) {k : List ℕ} {s m : State} {k₁ out : List ℕ} {filled : ℕ} {s' : State} {k₂ out' : List ℕ}
+    → Pending k (take n piece) s m k₁ out filled → FeedsLine k₁ (after n piece) out filled m s' r k₂ out'
     → length m.items ≡ 18432 → filled + 79911 ≤ length out → Pending k (take (n + r.taken) piece) s s' k₂ out' r.filled
 pending_more piece n r {k} {s} {m} {k₁} {out} {filled} {s'} {k₂} {out'} a f size room =
     let short = f.short (few_rows m.items size) in

@@ -1,13 +1,13 @@
 // The script program: reads standard input to its end, and answers each line. It holds one line, one read and the answers not yet written.
 // What is done with the bytes that were read is proved in `feed`. What is read and what is written no contract can say; here each read goes through
-// `feed` as it came, and the text of its answers is written. Where one of the two fails, a sentence on standard error says so, and the program ends.
+// `feed_line` as it came, and the text of its answers is written. Where one of the two fails, a sentence on standard error says so, and the program ends.
 #![tactic(auto)]
 
 ghost use Rattle.std.specs.Prelude.{◌≡◌, length};
 ghost use Rattle.input.specs.Line.{kept};
 ghost use Rattle.app.specs.Reads.{Answered, Reads, Obeys};
 
-use feed::feed;
+use feed::feed_line;
 use input::Line;
 use rows::header;
 use rows::header::Header;
@@ -58,7 +58,7 @@ fn reply<W: Print>(
     let mut taken: usize = 0;
     let mut filled: usize = 0;
     while taken < piece.len() {
-        let fed = feed(
+        let fed = feed_line(
             *header,
             shelves,
             items,

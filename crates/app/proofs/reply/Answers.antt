@@ -20,8 +20,8 @@ loop-taken-preserved-then-filled-gt-FULL g c =
     let size : length l.items ≡ 18432 = l.auto.items ∙ c.requires in
     let piece = c.args.piece.now in
     record {
-      fed = pending_handed (pending_more piece l.taken c.feed-fed.result l.invariant.fed c.feed-fed.ensures size (omega arith));
-      within = more_within piece l.taken c.feed-fed.result.taken l.invariant.within c.feed-fed.ensures.within;
+      fed = pending_handed (pending_more piece l.taken c.feed_line-fed.result l.invariant.fed c.feed_line-fed.ensures size (omega arith));
+      within = more_within piece l.taken c.feed_line-fed.result.taken l.invariant.within c.feed_line-fed.ensures.within;
       room = search rules;
       size = search rules;
       few = l.invariant.few;
@@ -34,8 +34,8 @@ loop-taken-preserved g c =
     let size : length l.items ≡ 18432 = l.auto.items ∙ c.requires in
     let piece = c.args.piece.now in
     record {
-      fed = pending_more piece l.taken c.feed-fed.result l.invariant.fed c.feed-fed.ensures size (omega arith);
-      within = more_within piece l.taken c.feed-fed.result.taken l.invariant.within c.feed-fed.ensures.within;
+      fed = pending_more piece l.taken c.feed_line-fed.result l.invariant.fed c.feed_line-fed.ensures size (omega arith);
+      within = more_within piece l.taken c.feed_line-fed.result.taken l.invariant.within c.feed_line-fed.ensures.within;
       room = search rules;
       size = search rules;
       few = l.invariant.few;
