@@ -24,6 +24,7 @@ module _ {h : Header} {z : Sizes} (is : SizesOf h z) where
   pub shelves_laid : (first : ℕ) → first ≤ 1 → Laid (layout_of shelf_rows_of) first h.used_shelves z.shelf_blocks
   unfolding layout_of shelf_rows_of shelves block_count
   shelves_laid first b = record {
+    kind_fits = omega arith;
     rows_fit = omega arith;
     all_held = omega (arith, is.shelf_blocks);
     each_some = omega (arith, is.shelf_blocks);
@@ -34,6 +35,7 @@ module _ {h : Header} {z : Sizes} (is : SizesOf h z) where
   pub items_laid : (first : ℕ) → first ≤ 1 + z.shelf_blocks → Laid (layout_of item_rows_of) first h.used_items z.item_blocks
   unfolding layout_of item_rows_of items block_count
   items_laid first b = record {
+    kind_fits = omega arith;
     rows_fit = omega arith;
     all_held = omega (arith, is.item_blocks);
     each_some = omega (arith, is.item_blocks);

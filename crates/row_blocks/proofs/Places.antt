@@ -42,6 +42,7 @@ module _ (k : Layout) (used b : ℕ) (passed : b * k.most ≤ used) (room : k.mo
 -- where the blocks stand in the image is nothing to the table
 pub laid_from_zero : {k : Layout} {first used n : ℕ} → Laid k first used n → Laid k 0 used n
 laid_from_zero l = record {
+  kind_fits = l.kind_fits;
   rows_fit = l.rows_fit;
   all_held = l.all_held;
   each_some = l.each_some;
@@ -58,6 +59,7 @@ place {k} {first} {used} {n} l b c = rows_are k used b (passed l b c) l.rows_fit
 
 pub there : {k : Layout} {first used n : ℕ} → Laid k first used n → (image : List ℕ) → n * 512 ≤ length image → (b r : ℕ) → b < n → Rows k used b r → There k first b r image
 there l image long b r c p = record {
+  kind_fits = l.kind_fits;
   number_fits = omega (arith, l.few_blocks);
   rows_fit = omega (arith, l.few_rows);
   held = p.held;
@@ -92,6 +94,7 @@ module _ {k : Layout} {first used n : ℕ} (l : Laid k first used n) where
 
   pub full_laid : {full : ℕ} → Filled k used n full → Laid k first (full * k.most) full
   full_laid f = record {
+    kind_fits = l.kind_fits;
     rows_fit = l.rows_fit;
     all_held = omega arith;
     each_some = omega arith;

@@ -15,6 +15,7 @@ layout_of k = record { kind = k.number; most = k.most; width = k.shape.width }
 -- what `used` rows in n blocks from block `first` of an image on have to do with each other: they all have room and each block has a row, no block has
 -- more numbers than it has room for, and numbers and rows fit their fields
 pub record Laid (k : Layout) (first used n : ℕ) : Type 0 where
+  pub kind_fits : k.kind < 256
   pub rows_fit : k.most * k.width ≤ 252
   pub all_held : used ≤ n * k.most
   pub each_some : n * k.most < used + k.most
@@ -23,6 +24,7 @@ pub record Laid (k : Layout) (first used n : ℕ) : Type 0 where
 
 -- block b of those from block `first` on has r rows and is there in an image, and what it holds fits
 pub record There (k : Layout) (first b r : ℕ) (image : List ℕ) : Type 0 where
+  pub kind_fits : k.kind < 256
   pub number_fits : first + b < 65536
   pub rows_fit : r < 65536
   pub held : r * k.width ≤ 252

@@ -14,7 +14,7 @@ use blocks::block::Heading;
 // A kind of blocks that hold rows: its number, how many rows a block has at most, and how many numbers a row has.
 #[derive(Clone, Copy)]
 pub struct Layout {
-    pub kind: u8,
+    pub kind: u16,
     pub most: usize,
     pub width: usize,
 }
@@ -30,12 +30,12 @@ impl Layout {
 
     // What stands in front of a block of the kind.
     pub fn heading(self, number: usize, rows: usize) -> Heading
-        requires { (number < 65536) × (rows < 65536) }
+        requires { (number < 65536) × (rows < 65536) × (self.kind < 256) }
         ensures { result ≡ record { number = number; kind = self.kind; rows = rows } }
     {
         Heading {
             number: number as u16,
-            kind: self.kind,
+            kind: self.kind as u8,
             rows: rows as u16,
         }
     }
