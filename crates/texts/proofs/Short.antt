@@ -1,15 +1,13 @@
 -- An answer's line has at most 39 bytes, its newline counted: numbers of 16 bits have five digits at most, those of 32 bits ten. Assumes nothing.
 use Rattle.std.specs.Prelude.{◌+◌, ◌^◌, ◌≤◌, ◌<◌, ◌≡◌, ◌∷◌, ◌++◌}
 use Rattle.numbers.specs.Library.{ℕ, arith, refl, List, [], length, length-append}
-use Rattle.numbers.specs.Prelude.{refusal_number}
-use Rattle.numbers.specs.declared.refusal.Refusal.{Refusal}
 use Rattle.rows.specs.declared.live.Live.{Live}
 use Rattle.texts.specs.Text.{decimal, spaced, line}
 use Rattle.texts.specs.Answer.{live_line, refusal_line, text_of}
 use Rattle.texts.specs.Put.{Puts}
 use Rattle.texts.specs.Lines.{PutsLines, one_line, one_refusal}
 use Rattle.texts.specs.declared.answer.Answer.{Answer}
-use Rattle.texts.specs.declared.answer.Answer.TheVariants.{Made, Item, Space, Listed, End, No}
+use Rattle.texts.specs.declared.answer.Answer.TheVariants.{Made, Item, Space, Listed, End}
 use Rattle.texts.proofs.Digits.{five, ten}
 
 line_length : (word ns : List ℕ) → length (line word ns) ≡ length word + length (spaced ns) + 1
@@ -73,8 +71,8 @@ space_lines occupied free h k = lines (Space occupied free) (omega (arith, two_n
 pub end_lines : (count : ℕ) → count < 2 ^ 32 → {out : List ℕ} {at : ℕ} {out' : List ℕ} {end : ℕ} → Puts out at (text_of (End count)) out' end → PutsLines out at (text_of (End count)) out' end
 end_lines count h = lines (End count) (omega (arith, one_number (101 ∷ 110 ∷ 100 ∷ []) count h))
 
-pub no_lines : (e : Refusal) (number : ℕ) → number ≡ refusal_number e → number < 2 ^ 32 → {out : List ℕ} {at : ℕ} {out' : List ℕ} {end : ℕ} → Puts out at (refusal_line number) out' end → PutsLines out at (text_of (No e)) out' end
-no_lines e number is h p = rw (← is) (record { puts = p; short = omega (arith, one_refusal number, one_number (110 ∷ 111 ∷ []) number h) })
+pub no_lines : (number : ℕ) → number < 2 ^ 32 → {out : List ℕ} {at : ℕ} {out' : List ℕ} {end : ℕ} → Puts out at (refusal_line number) out' end → PutsLines out at (refusal_line number) out' end
+no_lines number h p = record { puts = p; short = omega (arith, one_refusal number, one_number (110 ∷ 111 ∷ []) number h) }
 
 pub live_lines : (l : Live) → length (live_line l) ≤ 36 → {out : List ℕ} {at : ℕ} {out' : List ℕ} {end : ℕ} → Puts out at (text_of (Listed l)) out' end → PutsLines out at (text_of (Listed l)) out' end
 live_lines l h = lines (Listed l) (omega arith)

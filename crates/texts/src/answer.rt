@@ -2,8 +2,8 @@
 ghost use Rattle.std.specs.Prelude.{◌≤◌, length};
 ghost use Rattle.texts.specs.Lines.{PutsLines};
 ghost use Rattle.texts.specs.Put.{Puts};
-ghost use Rattle.texts.specs.Answer.{live_line, text_of};
-ghost use Rattle.texts.specs.declared.answer.Answer.TheVariants.{Made, Item, Space, End, No};
+ghost use Rattle.texts.specs.Answer.{live_line, refusal_line, text_of};
+ghost use Rattle.texts.specs.declared.answer.Answer.TheVariants.{Made, Item, Space, End};
 
 use crate::text::{put_line, put_number, put_text};
 use numbers::refusal::Refusal;
@@ -71,10 +71,11 @@ fn put_end(out: &mut [u8], at: usize, count: u32) -> usize
     put_line(out, at, b"end", &[count])
 }
 
-fn put_no(out: &mut [u8], at: usize, refusal: Refusal) -> usize
-    ensures { PutsLines out.old at (text_of (No refusal)) out.new result }
+// The line of a refusal's number, whatever it is.
+pub fn put_no(out: &mut [u8], at: usize, number: u16) -> usize
+    ensures { PutsLines out.old at (refusal_line number) out.new result }
 {
-    put_line(out, at, b"no", &[refusal.number() as u32])
+    put_line(out, at, b"no", &[number as u32])
 }
 
 // An answer's line with its newline, of at most 39 bytes.
@@ -88,6 +89,6 @@ pub fn put_answer(out: &mut [u8], at: usize, answer: Answer) -> usize
         Answer::Space(occupied, free) => put_space(out, at, occupied, free),
         Answer::Listed(live) => put_live(out, at, live),
         Answer::End(count) => put_end(out, at, count),
-        Answer::No(refusal) => put_no(out, at, refusal),
+        Answer::No(refusal) => put_no(out, at, refusal.number()),
     }
 }
