@@ -14,6 +14,7 @@ use Rattle.search.specs.Search.{Held, nothing, good, bad, place_of, first_wide, 
 use Rattle.search.specs.Search.{shallower_than, skipped_by, PastSkipped, start, past}
 use Rattle.search.specs.Walkable.{WalkableFrom, Walkable}
 use Rattle.search.proofs.Tests.{fails, holds}
+use Rattle.search.proofs.InUse.{few_shelves}
 use Rattle.search.proofs.ToTry.{chain_from}
 use Rattle.search.proofs.Skipping.{skips_so, bad_first, exact_fits}
 
@@ -22,10 +23,6 @@ use Rattle.search.proofs.Skipping.{skips_so, bad_first, exact_fits}
 -- the chain, among the rows that the table has
 pub chain_there : {h : Header} {S I : List ℕ} {at : ℕ} → WalkableFrom h S I at → EndsFrom (shelf_next S) (rows shelves S) at
 chain_there {h} {S} {I} {at} w = ends_among (shelf_next S) h.used_shelves (rows shelves S) w.shelves_fit (rows_few shelves S) at w.chain_ends
-
--- the used rows are few enough that none of them is no row
-few_shelves : {h : Header} {S I : List ℕ} {at : ℕ} → WalkableFrom h S I at → h.used_shelves ≤ no_row
-few_shelves {h} {S} {I} {at} w = omega (arith, w.shelves_fit, rows_few shelves S)
 
 module _ {h : Header} {S I : List ℕ} {at : ℕ} (w : WalkableFrom h S I at) (some : at ≢ no_row) where
   on : Onward (shelf_next S) h.used_shelves (few_shelves w) at

@@ -1,1 +1,2 @@
 pub mod ShelfEdits
+pub mod State
