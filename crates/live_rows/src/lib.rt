@@ -1,7 +1,7 @@
 // Live items: whether an id names one, what an answer tells of one, its area, and the live rows by rising row.
 #![tactic(auto)]
 
-ghost use Rattle.std.specs.Prelude.{◌≡◌, ◌≤◌, ◌<◌};
+ghost use Rattle.std.specs.Prelude.{◌≡◌, ◌≤◌, ◌<◌, ◌*◌};
 ghost use Rattle.rows.specs.Prelude.{item_capacity, item_at, shelf_capacity, shelf_at_of};
 ghost use Rattle.live_rows.specs.Live.{is_live_of, live_of_rows, live_at, area_at, is_vacant, live_one, live_count};
 
@@ -66,6 +66,13 @@ pub fn live_at(h: Header, shelves: &[u16], items: &[u16], row: u16) -> Live
     live_of_item(h, shelves, i, row)
 }
 
+// The area of item i, which lies on shelf s.
+pub fn area_of_rows(s: ShelfRow, i: ItemRow) -> u32
+    ensures { result ≡ i.width * s.height }
+{
+    wrap::area(i.width, s.height)
+}
+
 // The area of the item in row `at`.
 pub fn area_at(shelves: &[u16], items: &[u16], at: ItemIndex) -> u32
     requires { (at.0 < item_capacity items.now) × ((item_at items.now at).shelf.0 < shelf_capacity shelves.now) }
@@ -73,7 +80,7 @@ pub fn area_at(shelves: &[u16], items: &[u16], at: ItemIndex) -> u32
 {
     let i = ItemRow::there(items, at);
     let s = ShelfRow::there(shelves, i.shelf);
-    wrap::area(i.width, s.height)
+    area_of_rows(s, i)
 }
 
 // No item is live: a live one has some area.

@@ -88,7 +88,7 @@ pub fn release_item(t: &mut Tables, on: ShelfIndex, at: ItemIndex) -> bool
 {
     let s = t.shelf_there(on);
     let i = t.item_there(at);
-    let less = vacate(t.header, wrap::area(i.width, s.height));
+    let less = vacate(t.header, live_rows::area_of_rows(s, i));
     let loosened = merge_items::loosen(less, t.items, s.first_unallocated, at);
     t.header = loosened.header;
     let empty = is_one_free(t, s.first_item);

@@ -7,4 +7,4 @@ there-s-requires c = rw c.there-i.ensures c.requires.1
 
 pub returns : goal.returns
 unfolding area_at
-returns c = rw (c.area.ensures, c.there-s.ensures, c.there-i.ensures)
+returns c = rw (c.area_of_rows.ensures, c.there-s.ensures, c.there-i.ensures)

@@ -32,7 +32,7 @@ loosen-loosened-requires c = rw (c.vacate-less.ensures, c.shelf_there-s.ensures)
 pub is_one_free-empty-requires : goal.is_one_free-empty-requires
 unfolding loosened
 is_one_free-empty-requires c =
-    rw (c.loosen-loosened.ensures.items, c.vacate-less.ensures, c.area.ensures, c.item_there-i.ensures, c.shelf_there-s.ensures, area_read _ _ _ _ c.requires.1)
+    rw (c.loosen-loosened.ensures.items, c.vacate-less.ensures, c.area_of_rows.ensures, c.item_there-i.ensures, c.shelf_there-s.ensures, area_read _ _ _ _ c.requires.1)
     (front_there c.requires.0 c.requires.1)
 
 pub returns-clause-is : goal.returns-clause-is
@@ -46,7 +46,7 @@ returns-clause-is c =
       c.loosen-loosened.ensures.first,
       c.loosen-loosened.ensures.items,
       c.vacate-less.ensures,
-      c.area.ensures,
+      c.area_of_rows.ensures,
       c.item_there-i.ensures,
       c.shelf_there-s.ensures,
       area_read _ _ _ _ c.requires.1,
