@@ -8,44 +8,7 @@ ghost use Rattle.feed.specs.Fed.{FeedsLine, FeedsPart};
 use input::{Line, take_line};
 use rows::header::Header;
 
-// After the bytes taken of a piece: the header, how many bytes were taken, and where the answers end.
-#[derive(Clone, Copy)]
-pub struct FedLine {
-    pub header: Header,
-    pub taken: usize,
-    pub filled: usize,
-}
-
-// Takes the bytes of `piece` up to a newline and answers the line that it ends; takes all of them where there is none. The answer goes into `out`
-// from `at` on.
-pub fn feed_line(
-    header: Header,
-    shelves: &mut [u16],
-    items: &mut [u16],
-    line: &mut Line,
-    piece: &[u8],
-    out: &mut [u8],
-    at: usize,
-) -> FedLine
-    ensures { FeedsLine (kept line.old) piece.now out.old at (record { header = header; shelves = shelves.old; items = items.old }) (record { header = result.header; shelves = shelves.new; items = items.new }) result (kept line.new) out.new }
-{
-    let Some(taken) = line.take(piece) else {
-        return FedLine {
-            header,
-            taken: piece.len(),
-            filled: at,
-        };
-    };
-    let stepped = script::step(header, shelves, items, line.bytes(), out, at);
-    line.clear();
-    FedLine {
-        header: stepped.header,
-        taken,
-        filled: stepped.at,
-    }
-}
-
-// The same, and how many bytes are kept of the line.
+// After the bytes taken of a piece: the header, how many bytes are kept of the line, how many were taken, and where the answers end.
 #[derive(Clone, Copy)]
 pub struct Fed {
     pub header: Header,
@@ -54,7 +17,8 @@ pub struct Fed {
     pub filled: usize,
 }
 
-// The same for a caller that lends the bytes of the line, of which `have` are kept already.
+// Takes the bytes of `piece` up to a newline and answers the line that it ends; takes all of them where there is none. Of the line `have` bytes
+// are kept already, and the answer goes into `out` from `at` on.
 pub fn feed(
     header: Header,
     shelves: &mut [u16],
@@ -84,5 +48,44 @@ pub fn feed(
         have: 0,
         taken,
         filled: stepped.at,
+    }
+}
+
+// The same without the bytes kept, which a Line holds.
+#[derive(Clone, Copy)]
+pub struct FedLine {
+    pub header: Header,
+    pub taken: usize,
+    pub filled: usize,
+}
+
+// The same of a Line.
+pub fn feed_line(
+    header: Header,
+    shelves: &mut [u16],
+    items: &mut [u16],
+    line: &mut Line,
+    piece: &[u8],
+    out: &mut [u8],
+    at: usize,
+) -> FedLine
+    ensures { FeedsLine (kept line.old) piece.now out.old at (record { header = header; shelves = shelves.old; items = items.old }) (record { header = result.header; shelves = shelves.new; items = items.new }) result (kept line.new) out.new }
+{
+    let have = line.have;
+    let fed = feed(
+        header,
+        shelves,
+        items,
+        &mut line.bytes,
+        have,
+        piece,
+        out,
+        at,
+    );
+    line.have = fed.have;
+    FedLine {
+        header: fed.header,
+        taken: fed.taken,
+        filled: fed.filled,
     }
 }

@@ -11,8 +11,8 @@ const LONGEST: usize = 80;
 // What is kept of a line: its first bytes.
 #[derive(Drop)]
 pub struct Line {
-    bytes: [u8; 81],
-    have: usize,
+    pub bytes: [u8; 81],
+    pub have: usize,
     ghost room: { have ≤ 81 },
 }
 
@@ -75,27 +75,5 @@ impl Line {
         ensures { IsTrue result ↔ (kept self.now ≡ []) }
     {
         self.have == 0
-    }
-
-    pub fn bytes(&self) -> &[u8]
-        ensures { result.now ≡ kept self.now }
-    {
-        &self.bytes[..self.have]
-    }
-
-    pub fn clear(&mut self)
-        ensures { kept self.new ≡ [] }
-    {
-        self.have = 0;
-    }
-
-    // Takes the bytes of `piece` up to a newline, and the newline, and says how many these are; takes all of them, and says None, where there is no
-    // newline.
-    pub fn take(&mut self, piece: &[u8]) -> Option<usize>
-        ensures { Takes (kept self.old) piece.now (kept self.new) result }
-    {
-        let taken = take_line(&mut self.bytes, self.have, piece);
-        self.have = taken.have;
-        taken.ended
     }
 }
