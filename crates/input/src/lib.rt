@@ -37,7 +37,7 @@ fn keep(line: &mut [u8], have: usize, byte: u8) -> usize
 }
 
 // Takes the bytes of `piece` up to a newline, and the newline; all of them where there is none. Of the line `have0` bytes are kept already. They are counted
-// beside the line: counted in it, each byte took a third more instructions (measured).
+// in a local: written back for each byte, the count made long lines slower (measured).
 pub fn take_line(line: &mut [u8], have0: usize, piece: &[u8]) -> Taken
     requires line_len { length line.old ≡ 81 }
     requires have0_bound { have0 ≤ 81 }
